@@ -1,0 +1,6 @@
+-- The port half: its record, its handshake, and the steps of its two sides.
+pub mod State
+pub mod Shake
+pub mod Tail
+pub mod Fetch
+pub mod Post

@@ -1,0 +1,41 @@
+// The two rules that both halves go by: what an envelope's header must say, and what an answer grants.
+ghost use mathlib.Core.Path.{_≡_};
+ghost use Prim.Native.Nat.{_≤_};
+ghost use Rattle.rules.specs.Rules.{faultOf, carriedOf, leftOf};
+use answers::Fatal;
+
+// What is wrong with an envelope.
+pub enum Fault {
+    Sound,
+    Unsound(Fatal),
+}
+
+// Decides by message type, connection and length.
+pub fn fault_of(kind: u16, connection: u16, size: u16) -> Fault
+    ensures { λ r. ⌜ r ≡ faultOf kind connection size ⌝ }
+{
+    match kind {
+        0 => match connection {
+            0 => match size {
+                0..=60 => Fault::Sound,
+                _ => Fault::Unsound(Fatal::Incompatible),
+            },
+            _ => Fault::Unsound(Fatal::InvalidConnection),
+        },
+        _ => Fault::Unsound(Fatal::Incompatible),
+    }
+}
+
+// The credits that an answer carries.
+pub fn carried_of(owed: u8) -> u8
+    ensures { λ r. ⌜ r ≡ carriedOf owed ⌝ }
+{
+    if owed < 14 { owed + 1 } else { 15 }
+}
+
+// What is still to grant after it.
+pub fn left_of(owed: u8) -> u8
+    ensures { λ r. ⌜ r ≡ leftOf owed ⌝ }
+{
+    if owed < 14 { 0 } else { owed - 14 }
+}

@@ -1,0 +1,3 @@
+-- What the words of the storage port mean: their fields, said once, in document 004's terms.
+pub mod Fields
+pub mod Words
