@@ -83,8 +83,7 @@ impl Port {
             return self.moves(Phase::Step4(area), interrupt);
         }
         let reply = answers::bare(Said::Failed(Fatal::RingWrite), interrupt);
-        let port = self
-            .with_phase(Phase::Failed(Fatal::RingWrite))
+        let port = self.with_phase(Phase::Failed(Fatal::RingWrite))
             .with_fetcher(Fetcher::NoFetch)
             .with_poster(Poster::NoPost);
         Stepped { reply, port }
@@ -113,7 +112,10 @@ impl Port {
         match phase {
             Phase::Step1 => self.hears_first(w),
             Phase::Wrap(_) => self.moves(Phase::Wrap(w), false),
-            Phase::Step2(first) => self.moves(Phase::Step3(first, w), area::interrupts_steps(first)),
+            Phase::Step2(first) => self.moves(
+                Phase::Step3(first, w),
+                area::interrupts_steps(first),
+            ),
             Phase::Step3(first, second) => {
                 let area = Area {
                     first,

@@ -281,8 +281,7 @@ impl Port {
     pub fn failed(self, x: Fatal) -> Stepped
         ensures { λ r. ⌜ answered r ≡ fail self x ⌝ }
     {
-        let port = self
-            .with_phase(Phase::Failed(x))
+        let port = self.with_phase(Phase::Failed(x))
             .with_fetcher(Fetcher::NoFetch)
             .with_poster(Poster::NoPost);
         port.said(Said::Failed(x))

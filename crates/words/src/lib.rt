@@ -5,3 +5,4 @@ pub mod field;
 pub mod header;
 pub mod hostword;
 pub mod shown;
+pub mod readback;

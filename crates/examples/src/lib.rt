@@ -1,0 +1,8 @@
+// The twelve marked examples of document 01, proved together. The contract carries the claim; the function counts the rows.
+ghost use Rattle.examples.specs.Marked.{Claim};
+
+pub fn marked_examples() -> u16
+    ensures { λ r. ⌜ Claim ⌝ }
+{
+    12
+}

@@ -1,0 +1,5 @@
+pub mod StateLaws
+pub mod ShakeLaws
+pub mod SetupLaws
+pub mod SendLaws
+pub mod TakeLaws

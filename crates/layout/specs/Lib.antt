@@ -1,0 +1,2 @@
+-- Ring and layout facts, for every exponent.
+pub mod Facts

@@ -1,0 +1,8 @@
+// Ring and layout facts for every exponent. The contract carries them; the function says how many exponents there are.
+ghost use Rattle.layout.specs.Facts.{EveryLayout};
+
+pub fn every_layout() -> u16
+    ensures { λ r. ⌜ EveryLayout ⌝ }
+{
+    8
+}

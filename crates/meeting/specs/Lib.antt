@@ -1,0 +1,2 @@
+-- Host and port in the handshake, over one memory.
+pub mod Meeting

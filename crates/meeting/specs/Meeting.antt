@@ -1,0 +1,68 @@
+-- A host and a port that exchange words over one memory: the host is shown SA, and what it asks is done.
+use Prim.Native.Nat.{ℕ, zero, suc, _≤_}
+use mathlib.Core.Path.{_≡_}
+use mathlib.Core.Bool.{Bool, true}
+use Rattle.words.specs.Fields.{of, isSet, ie, vector, pi}
+use Rattle.words.specs.Words.{addressBits, goWord}
+use Rattle.memory.specs.Memory.{Memory}
+use Rattle.area.specs.Layout.{exponent, base, areaLies, areaCleared}
+use Rattle.area.specs.declared.Area.{Area}
+use Rattle.area.specs.declared.Ring.the-variants.{Command, Response}
+use Rattle.port.specs.State as PortState
+use Rattle.port.specs.Shake.{saOf, saWritten}
+use Rattle.port.specs.declared.state.Phase.the-variants.{Running}
+use Rattle.port.specs.declared.state.Port.{Port}
+use Rattle.host.specs.State as HostState
+use Rattle.host.specs.Shake.{Asks, writesIp, writesSa, waiting, dead, none, portFatal, refused, accepts, areaOf, begun, saSeen}
+use Rattle.host.specs.declared.state.Shake.the-variants.{Finished}
+use Rattle.host.specs.declared.state.Beginning.{Beginning}
+use Rattle.host.specs.declared.state.Host.{Host}
+
+pub record Pair : Type 0 where
+  pub host : Host
+  pub port : Port
+  pub memory : Memory
+
+abbrev pub pair : Host → Port → Memory → Pair
+pair h p m = record { host = h; port = p; memory = m }
+
+-- What the host asks is done: it writes IP, or a word to SA with memory lent; all else touches neither port nor memory.
+abbrev pub obeyed : Host → Port → Memory → Asks → Pair
+obeyed h p m writesIp = pair h (PortState.fresh (p .made)) m
+obeyed h p m (writesSa w) = pair h (saWritten addressBits p w m .state) (saWritten addressBits p w m .memory)
+obeyed h p m waiting = pair h p m
+obeyed h p m dead = pair h p m
+obeyed h p m none = pair h p m
+obeyed h p m (portFatal x) = pair h p m
+obeyed h p m (refused k) = pair h p m
+
+-- The host begins.
+unfoldable pub opened : Beginning → Pair → Pair
+opened b x = obeyed (begun addressBits (x .host) b .state) (x .port) (x .memory) (begun addressBits (x .host) b .asks)
+
+-- The host is shown SA.
+unfoldable pub exchange : Pair → Pair
+exchange x = obeyed (saSeen (x .host) (saOf (x .port)) .state) (x .port) (x .memory) (saSeen (x .host) (saOf (x .port)) .asks)
+
+unfoldable pub exchanges : ℕ → Pair → Pair
+exchanges zero x = x
+exchanges (suc k) x = exchanges k (exchange x)
+
+-- Both run, with the same three words; the area is zero, and SA reads 0.
+abbrev pub running : Beginning → Port → Memory → Pair
+running b p m =
+    pair (HostState.fresh Finished (areaOf b)) (PortState.withPhase (PortState.fresh (p .made)) (Running (areaOf b) goWord)) (areaCleared addressBits m (areaOf b))
+
+-- Four exchanges bring any host and any port there, whatever either was doing before, where the settings are good and the area
+-- lies in memory; and the words say the settings that were asked for.
+pub record Meets (b : Beginning) (x : Pair) : Type 0 where
+  pub meet : exchanges 4 (opened b x) ≡ running b (x .port) (x .memory)
+  pub quiet : saOf (exchanges 4 (opened b x) .port) ≡ 0
+  pub command : exponent (areaOf b) Command ≡ b .command
+  pub response : exponent (areaOf b) Response ≡ b .response
+  pub interrupts : isSet ie (areaOf b .first) ≡ b .interrupts
+  pub vector-asked : of vector (areaOf b .first) ≡ b .vector
+  pub base-asked : base addressBits (areaOf b) ≡ b .base
+
+abbrev pub EveryMeeting : Type 0
+EveryMeeting = (b : Beginning) (x : Pair) → accepts addressBits b ≡ true → areaLies addressBits (x .memory) (areaOf b) ≡ true → Meets b x

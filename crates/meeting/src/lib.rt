@@ -1,0 +1,8 @@
+// Host and port reach "running" together. The contract carries the fact; the function counts the exchanges.
+ghost use Rattle.meeting.specs.Meeting.{EveryMeeting};
+
+pub fn every_meeting() -> u16
+    ensures { λ r. ⌜ EveryMeeting ⌝ }
+{
+    4
+}

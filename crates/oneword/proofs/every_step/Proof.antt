@@ -1,0 +1,10 @@
+-- The fact is `every-step`. Assumes nothing.
+use Rattle.oneword.proofs.Steps.{every-step}
+use Rattle.oneword.proofs.every_step.Statement.{statement}
+use Rattle.oneword.proofs.every_step.Tie as tie
+
+returns : tie.Need-returns
+returns c = every-step
+
+pub every-step-spec : {M : Type 1} → statement M
+every-step-spec = tie.close (tie.spec returns)

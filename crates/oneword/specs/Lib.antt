@@ -1,0 +1,2 @@
+-- "One step touches at most one word."
+pub mod OneStep

@@ -1,0 +1,5 @@
+pub mod StateLaws
+pub mod SideLaws
+pub mod FetchLaws
+pub mod PostLaws
+pub mod ShakeLaws

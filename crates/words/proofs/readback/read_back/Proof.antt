@@ -1,0 +1,10 @@
+-- The fact is `read-back`. Assumes nothing.
+use Rattle.words.proofs.BackLaws.{read-back}
+use Rattle.words.proofs.readback.read_back.Statement.{statement}
+use Rattle.words.proofs.readback.read_back.Tie as tie
+
+returns : tie.Need-returns
+returns c = read-back
+
+pub read-back-spec : {M : Type 1} → statement M
+read-back-spec = tie.close (tie.spec returns)

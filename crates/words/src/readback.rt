@@ -1,0 +1,8 @@
+ghost use Rattle.words.specs.ReadBack.{ReadBack};
+
+// What is built is read back. The contract carries the fact; the function counts the words' bits.
+pub fn read_back() -> u16
+    ensures { λ r. ⌜ ReadBack ⌝ }
+{
+    16
+}
