@@ -95,12 +95,12 @@ table =
     ∷ row 5 (0x4063 ∷ []) (saOf port4 ∷ [])
     ∷ row 6 (0x800e ∷ []) (saOf (fail port1 InvalidConnection .state) ∷ [])
     ∷ row 7 (0x2344 ∷ 0xc001 ∷ 0x4001 ∷ [])
-        (lowWord 0x12344
-        ∷ highWord true true (withAddress addressBits 0 0x12344)
-        ∷ highWord false true (highWord true true (withAddress addressBits 0 0x12344))
-        ∷ [])
+    (lowWord 0x12344
+    ∷ highWord true true (withAddress addressBits 0 0x12344)
+    ∷ highWord false true (highWord true true (withAddress addressBits 0 0x12344))
+    ∷ [])
     ∷ row 8 (16 ∷ 44 ∷ [])
-        ((slotAt addressBits area Command 0 - base addressBits area) ∷ (slotAt addressBits area Command 7 - base addressBits area) ∷ [])
+    ((slotAt addressBits area Command 0 - base addressBits area) ∷ (slotAt addressBits area Command 7 - base addressBits area) ∷ [])
     ∷ row 9 (15 ∷ 14 ∷ 1 ∷ []) (answered 28 3)
     ∷ row 10 (15 ∷ 2 ∷ 1 ∷ []) (answered 16 3)
     ∷ row 11 (1 ∷ 1 ∷ []) (answered 1 2)

@@ -120,7 +120,7 @@ module _ (a : Area) (r : Ring) where
       }
 
 -- a slot's number among all slots
-number-lt : (a : Area) (r : Ring) (i : ℕ) → i < slots a r → numberOf a r i < slotCount a
+pub number-lt : (a : Area) (r : Ring) (i : ℕ) → i < slots a r → numberOf a r i < slotCount a
 number-lt a Command i h = omega arith
 number-lt a Response i h = omega (arith, slots-some a Command)
 
@@ -159,12 +159,13 @@ module _ (n : ℕ) (a : Area) (pool end : ℕ) (e : fits n a pool end ≡ true) 
       let p = and-true (eqb (pool % 2) 0 && leb 4 (base n a) && leb (ringsEnd n a) end && leb (poolEnd a pool) end) away e in
       let q = and-true (eqb (pool % 2) 0 && leb 4 (base n a) && leb (ringsEnd n a) end) (leb (poolEnd a pool) end) (p .0) in
       let s = and-true (eqb (pool % 2) 0 && leb 4 (base n a)) (leb (ringsEnd n a) end) (q .0) in
-      let t = and-true (eqb (pool % 2) 0) (leb 4 (base n a)) (s .0) in
-      ((eqb-true (pool % 2) 0 (t .0), leb-true 4 (base n a) (t .1), leb-true (ringsEnd n a) end (s .1), leb-true (poolEnd a pool) end (q .1)),
+      let t = and-true (eqb (pool % 2) 0) (leb 4 (base n a)) (s .0) in (
+        (eqb-true (pool % 2) 0 (t .0), leb-true 4 (base n a) (t .1), leb-true (ringsEnd n a) end (s .1), leb-true (poolEnd a pool) end (q .1)),
         elim (or-true (leb (poolEnd a pool) (base n a - 4)) (leb (ringsEnd n a) pool) (p .1)) [
           | inl h ↦ inl (leb-true (poolEnd a pool) (base n a - 4) h)
           | inr h ↦ inr (leb-true (ringsEnd n a) pool h)
-        ])
+        ],
+      )
 
   slot-is : (r : Ring) (i : ℕ) → slotAt n a r i ≡ base n a + 4 * numberOf a r i
   unfolding slotAt
@@ -198,7 +199,7 @@ module _ (n : ℕ) (a : Area) (pool end : ℕ) (e : fits n a pool end ≡ true) 
         envelope-to = λ r i h. omega (arith, envelope-is r i, number-lt a r i h);
         envelope-inside = λ r i h. omega (arith, envelope-is r i, number-lt a r i h, says .0 .3);
         envelopes-clear = λ r i r′ i′ h h′ d. rw (envelope-is r i, envelope-is r′ i′) (stride-clear pool 64 (numberOf a r i) (numberOf a r′ i′) (number-apart a r i r′ i′ h h′ d));
-        pool-clear = elim (says .1) [ | inl h ↦ inl (omega (arith, says .0 .1)) | inr h ↦ inr h ];
+        pool-clear = elim (says .1) [ inl h ↦ inl (omega (arith, says .0 .1)) | inr h ↦ inr h ];
       }
 
 pub every-layout : EveryLayout

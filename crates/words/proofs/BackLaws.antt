@@ -105,11 +105,11 @@ address-at k o f rest a h l e =
     let one-over : highWord o f w / 2 ^ 0 ≡ highWord o f w = omega arith in
     let same : a / 2 ^ 16 / 2 ^ 0 ≡ a / 2 ^ 16 = omega arith in
     let top : highWord o f w / 2 ^ 0 % 2 ^ k ≡ a / 2 ^ 16 =
-        ap (λ (t : ℕ). t % 2 ^ k) one-over
-        ∙ high-part k o f w h
-        ∙ upper-part k (of kept rest) (a / 2 ^ 16 / 2 ^ 0)
-        ∙ ap (λ (t : ℕ). t % 2 ^ k) same
-        ∙ mod-eq-of-lt (shr-lt k 16 l) in
+    ap (λ (t : ℕ). t % 2 ^ k) one-over
+    ∙ high-part k o f w h
+    ∙ upper-part k (of kept rest) (a / 2 ^ 16 / 2 ^ 0)
+    ∙ ap (λ (t : ℕ). t % 2 ^ k) same
+    ∙ mod-eq-of-lt (shr-lt k 16 l) in
     ap (λ (t : ℕ). t * 2 ^ 16 + lowWord a / 2 ^ 1 % 2 ^ 15 * 2) top ∙ omega arith
 
 address-back : (n : ℕ) (o f : Bool) (rest a : ℕ) → 16 ≤ n → n ≤ 30 → a < 2 ^ n → a % 2 ≡ 0 → addressOf n (lowWord a) (highWord o f (withAddress n rest a)) ≡ a

@@ -65,7 +65,7 @@ first-is x y z v c p t i ex ey ez et =
     let a : bitOr (x * 2048) (y * 256) ≡ x * 2048 + y * 256 = or-is (x * 2048) x 11 (y * 256) refl (omega arith) in
     let b : bitOr (x * 2048 + y * 256) z ≡ x * 2048 + y * 256 + z = or-is (x * 2048 + y * 256) (x * 8 + y) 8 z (omega arith) (omega arith) in
     let d : bitOr (x * 2048 + y * 256 + z) t ≡ x * 2048 + y * 256 + z + t =
-        or-is (x * 2048 + y * 256 + z) (x * 16 + y * 2 + flag i) 7 t (omega arith) (omega arith) in
+    or-is (x * 2048 + y * 256 + z) (x * 16 + y * 2 + flag i) 7 t (omega arith) (omega arith) in
     ap₂ (λ (m n : ℕ). bitOr (bitOr (bitOr (bitOr m n) z) t) 32768) fx fy
     ∙ ap (λ (n : ℕ). bitOr (bitOr (bitOr n z) t) 32768) a
     ∙ ap (λ (n : ℕ). bitOr (bitOr n t) 32768) b

@@ -2,7 +2,9 @@ ghost use mathlib.Core.Path.{_≡_};
 ghost use Prim.Native.Nat.{_/_, _%_, _^_};
 ghost use Rattle.words.specs.Fields.{isSet, owner, flagged};
 ghost use Rattle.words.specs.Words.{addressBits, addressOf, lowWord, withAddress, highWord};
-use crate::field::{is_set, part, placed};
+use crate::field::is_set;
+use crate::field::part;
+use crate::field::placed;
 
 // The address that a low and a high word say; bit 0 is taken as 0.
 pub fn address(low: u16, high: u16) -> u32

@@ -2,7 +2,9 @@ ghost use mathlib.Core.Path.{_≡_};
 ghost use Rattle.words.specs.Fields.{of, isSet, one, wr, commandExponent, responseExponent, ie, vector, upper, lower, pi, go};
 ghost use Rattle.words.specs.Words.{firstWord, secondWord, thirdWord, goWord, addressBits, addressOf};
 use crate::descriptor;
-use crate::field::{is_set, part, placed};
+use crate::field::is_set;
+use crate::field::part;
+use crate::field::placed;
 
 // The host's Step 1 word.
 pub fn first(command: u8, response: u8, interrupts: bool, vector4: u8) -> u16

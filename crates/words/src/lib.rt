@@ -4,5 +4,5 @@ pub mod descriptor;
 pub mod field;
 pub mod header;
 pub mod hostword;
-pub mod shown;
 pub mod readback;
+pub mod shown;

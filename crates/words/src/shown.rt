@@ -1,7 +1,9 @@
 ghost use mathlib.Core.Path.{_≡_};
 ghost use Rattle.words.specs.Fields.{of, isSet, er, stepBits, echo, fatalCode};
 ghost use Rattle.words.specs.Words.{step1Word, step2Word, step3Word, step4Word, fatalWord};
-use crate::field::{is_set, part, placed};
+use crate::field::is_set;
+use crate::field::part;
+use crate::field::placed;
 
 // What SA shows in Step 1: bit 11; NV, QB, DI.
 pub fn step1(nv: bool, qb: bool, di: bool) -> u16

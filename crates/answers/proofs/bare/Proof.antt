@@ -1,15 +1,10 @@
 use borrow.Author.Needs.{needs}
 use Rattle.answers.proofs.bare.Statement.{statement}
 use Rattle.answers.proofs.bare.Tie as tie
-use Rattle.answers.proofs.bare.Reads as reads
-use Rattle.answers.proofs.bare.Lts as lts
-use Rattle.texts.proofs.blank.Reads as blank-reads
 
--- src/lib.rt:89:9
 blank-requires : tie.Need-blank-requires
 blank-requires c κs = search needs
 
--- src/lib.rt:86:1
 returns : tie.Need-returns
 returns c = λ i. record { said = c .before .args .said; size = 0; bytes = c .blank .ensures i; interrupt = c .before .args .interrupt }
 

@@ -2,14 +2,10 @@ use Rattle.area.proofs.Laws.{back-yes, back-no}
 use native.Mathlib.Omega.{arith}
 use Rattle.area.proofs.back.Statement.{statement}
 use Rattle.area.proofs.back.Tie as tie
-use Rattle.area.proofs.back.Reads as reads
-use Rattle.area.proofs.back.Lts as lts
 
--- src/lib.rt:56:1
 returns : tie.Need-returns
 returns c = back-yes (c .before .args .at) (c .before .args .k) _ _ (omega arith)
 
--- src/lib.rt:56:1
 returns-2 : tie.Need-returns-2
 returns-2 c = back-no (c .before .args .at) (c .before .args .k) _ _ (omega arith)
 

@@ -2,23 +2,16 @@ use Rattle.area.proofs.Laws.{from-yes, from-no}
 use borrow.Author.Needs.{needs}
 use Rattle.area.proofs.clear_from.Statement.{statement}
 use Rattle.area.proofs.clear_from.Tie as tie
-use Rattle.area.proofs.clear_from.Reads as reads
-use Rattle.area.proofs.clear_from.Lts as lts
-use Rattle.memory.proofs.clear_part.Reads as clear-part-reads
 
--- src/lib.rt:71:9
 clear-part-requires : tie.Need-clear-part-requires
 clear-part-requires c κs = search needs
 
--- src/lib.rt:67:1
 same-length : tie.Need-same-length
 same-length c = search needs
 
--- src/lib.rt:67:1
 returns : tie.Need-returns
 returns c = from-yes _ _ _ _ _ (search needs) (c .before .before .clear-part .ensures)
 
--- src/lib.rt:67:1
 returns-2 : tie.Need-returns-2
 returns-2 c = from-no _ _ (c .before .before .args .at) (c .before .before .args .k) (c .before .before .args .end) (search needs)
 

@@ -3,24 +3,16 @@ use Rattle.area.proofs.Laws.{interrupts-is}
 use borrow.Author.Needs.{needs}
 use Rattle.area.proofs.interrupts_steps.Statement.{statement}
 use Rattle.area.proofs.interrupts_steps.Tie as tie
-use Rattle.area.proofs.interrupts_steps.Reads as reads
-use Rattle.area.proofs.interrupts_steps.Lts as lts
-use Rattle.area.proofs.vectored.Reads as vectored-reads
-use Rattle.words.proofs.hostword.wants_interrupts.Reads as wants-interrupts-reads
 
--- src/lib.rt:40:8
 wants-interrupts-requires : tie.Need-wants-interrupts-requires
 wants-interrupts-requires c κs = search needs
 
--- src/lib.rt:41:9
 vectored-requires : tie.Need-vectored-requires
 vectored-requires c κs = search needs
 
--- src/lib.rt:37:1
 returns : tie.Need-returns
 returns c = interrupts-is _ (sym (c .before .if1 .taken) ∙ c .before .before .wants-interrupts .ensures) (c .vectored .ensures)
 
--- src/lib.rt:37:1
 returns-2 : tie.Need-returns-2
 returns-2 c = interrupts-is _ (sym (c .if1 .left) ∙ c .before .wants-interrupts .ensures) refl
 

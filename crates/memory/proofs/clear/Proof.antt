@@ -7,8 +7,6 @@ use borrow.Author.Needs.{needs}
 use Rattle.memory.proofs.Laws.{fill-done, fill-step}
 use Rattle.memory.proofs.clear.Statement.{statement}
 use Rattle.memory.proofs.clear.Tie as tie
-use Rattle.memory.proofs.clear.Reads as reads
-use Rattle.memory.proofs.clear.Lts as lts
 
 abbrev Inv-loop : tie.InvT-loop
 Inv-loop part₀ i₀ part i = (i ≤ length part₀) × ((length part ≡ length part₀) × (part ≡ replicate i 0 ++ drop i part₀))
@@ -16,31 +14,24 @@ Inv-loop part₀ i₀ part i = (i ≤ length part₀) × ((length part ≡ lengt
 abbrev μ-loop : tie.MeasureT-loop
 μ-loop part₀ i₀ part i = length part₀ - i
 
--- src/lib.rt:89:5
 loop-holds : tie.Need-loop-holds Inv-loop μ-loop
 loop-holds c = (search needs, (refl, refl))
 
--- src/lib.rt:90:9
 slice-write-part : tie.Need-slice-write-part Inv-loop μ-loop
 slice-write-part c = omega arith
 
--- src/lib.rt:91:9
 add-i : tie.Need-add-i Inv-loop μ-loop
 add-i c = omega arith
 
--- src/lib.rt:89:5
 loop-less : tie.Need-loop-less Inv-loop μ-loop
 loop-less c = omega arith
 
--- src/lib.rt:89:5
 loop-again : tie.Need-loop-again Inv-loop μ-loop
 loop-again c = (omega arith, (simp length-set (omega arith), fill-step _ (c .before .loop .i) 0 (c .before .before .args .part .now) (c .before .loop .inv .1 .1) (omega arith)))
 
--- src/lib.rt:85:1
 same-length : tie.Need-same-length Inv-loop μ-loop
 same-length c = omega arith
 
--- src/lib.rt:85:1
 returns : tie.Need-returns Inv-loop μ-loop
 returns c = fill-done _ (c .before .loop .i) 0 (c .before .before .args .part .now) (c .before .loop .inv .1 .1) (omega arith)
 

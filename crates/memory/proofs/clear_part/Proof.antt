@@ -5,44 +5,31 @@ use Rattle.memory.proofs.Laws.{usable-le, lies-late, lies-past, lies-ye
 use borrow.Author.Needs.{needs}
 use Rattle.memory.proofs.clear_part.Statement.{statement}
 use Rattle.memory.proofs.clear_part.Tie as tie
-use Rattle.memory.proofs.clear_part.Reads as reads
-use Rattle.memory.proofs.clear_part.Lts as lts
-use Rattle.memory.proofs.clear.Reads as clear-reads
-use Rattle.memory.proofs.usable_of.Reads as usable-of-reads
 
--- src/lib.rt:100:9
 returns : tie.Need-returns
 returns c = (lies-late _ _ _ _ _ refl (c .if1 .taken), cleared-no _ _ _ _ (lies-late _ _ _ _ _ refl (c .if1 .taken)))
 
--- src/lib.rt:102:12
 usable-of-requires : tie.Need-usable-of-requires
 usable-of-requires c κs = search needs
 
--- src/lib.rt:103:9
 same-length : tie.Need-same-length
 same-length c = search needs
 
--- src/lib.rt:103:9
 returns-2 : tie.Need-returns-2
 returns-2 c = (lies-past _ _ _ _ _ (c .before .usable-of .ensures) (c .before .before .before .if1 .left) (c .if2 .taken), cleared-no _ _ _ _ (lies-past _ _ _ _ _ (c .before .usable-of .ensures) (c .before .before .before .if1 .left) (c .if2 .taken)))
 
--- src/lib.rt:105:11
 part-clear-start : tie.Need-part-clear-start
 part-clear-start c = search needs
 
--- src/lib.rt:105:11
 part-clear-end : tie.Need-part-clear-end
 part-clear-end c = omega (arith, usable-le 18 (length (c .before .before .before .before .before .args .mem .now)))
 
--- src/lib.rt:105:5
 clear-requires : tie.Need-clear-requires
 clear-requires c κs = search needs
 
--- src/lib.rt:96:1
 same-length-2 : tie.Need-same-length-2
 same-length-2 c = search needs
 
--- src/lib.rt:96:1
 returns-3 : tie.Need-returns-3
 returns-3 c = (lies-yes _ _ _ _ _ (c .before .before .before .before .before .usable-of .ensures) (c .before .before .before .before .before .before .before .if1 .left) (c .before .before .before .before .if2 .left), cleared-yes _ _ _ _ _ _ (c .before .before .before .before .before .usable-of .ensures) (c .before .before .before .before .before .before .before .if1 .left) (c .before .before .before .before .if2 .left) (c .before .before .clear .ensures))
 

@@ -2,64 +2,46 @@ use Rattle.memory.proofs.OneWordLaws.{by-read, by-write, by-miss}
 use borrow.Author.Needs.{needs}
 use Rattle.memory.proofs.touched.Statement.{statement}
 use Rattle.memory.proofs.touched.Tie as tie
-use Rattle.memory.proofs.touched.Reads as reads
-use Rattle.memory.proofs.touched.Lts as lts
-use Rattle.memory.proofs.read_word.Reads as read-word-reads
-use Rattle.memory.proofs.write_word.Reads as write-word-reads
 
--- src/lib.rt:71:27
 enum-told : tie.Need-enum-told
 enum-told c = search needs
 
--- src/lib.rt:72:25
 enum-told-2 : tie.Need-enum-told-2
 enum-told-2 c = search needs
 
--- src/lib.rt:73:21
 enum-known-t : tie.Need-enum-known-t
 enum-known-t c = search needs
 
--- src/lib.rt:73:27
 read-word-requires : tie.Need-read-word-requires
 read-word-requires c κs = search needs
 
--- src/lib.rt:74:22
 enum-known-t-2 : tie.Need-enum-known-t-2
 enum-known-t-2 c = search needs
 
--- src/lib.rt:75:16
 write-word-requires : tie.Need-write-word-requires
 write-word-requires c κs = search needs
 
--- src/lib.rt:67:1
 returns : tie.Need-returns
 returns c = search needs
 
--- src/lib.rt:67:1
 returns-2 : tie.Need-returns-2
 returns-2 c = search needs
 
--- src/lib.rt:67:1
 same-length : tie.Need-same-length
 same-length c = search needs
 
--- src/lib.rt:67:1
 returns-3 : tie.Need-returns-3
 returns-3 c = by-read _ _ _ (c .before .before .before .t .given .1) (c .read-word .ensures)
 
--- src/lib.rt:67:1
 same-length-2 : tie.Need-same-length-2
 same-length-2 c = search needs
 
--- src/lib.rt:67:1
 returns-4 : tie.Need-returns-4
 returns-4 c = by-write _ _ _ (c .before .before .before .before .before .before .t2 .given .1) (c .before .before .before .write-word .ensures) (c .if1 .taken)
 
--- src/lib.rt:67:1
 same-length-3 : tie.Need-same-length-3
 same-length-3 c = search needs
 
--- src/lib.rt:67:1
 returns-5 : tie.Need-returns-5
 returns-5 c = by-miss _ _ _ (c .before .before .before .before .before .before .t2 .given .1) (c .before .before .before .write-word .ensures) (c .if1 .left)
 

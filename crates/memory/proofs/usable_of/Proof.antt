@@ -2,18 +2,13 @@ use Rattle.memory.proofs.Laws.{usable-short, usable-long}
 use borrow.Author.Needs.{needs}
 use Rattle.memory.proofs.usable_of.Statement.{statement}
 use Rattle.memory.proofs.usable_of.Tie as tie
-use Rattle.memory.proofs.usable_of.Reads as reads
-use Rattle.memory.proofs.usable_of.Lts as lts
 
--- src/lib.rt:32:16
 mul-even : tie.Need-mul-even
 mul-even c = search needs
 
--- src/lib.rt:29:1
 returns : tie.Need-returns
 returns c = usable-short _ (c .if1 .taken)
 
--- src/lib.rt:29:1
 returns-2 : tie.Need-returns-2
 returns-2 c = usable-long _ (c .if1 .left)
 

@@ -4,55 +4,40 @@ use Rattle.memory.proofs.Laws.{usable-le, inside-no, inside-yes, withWo
 use borrow.Author.Needs.{needs}
 use Rattle.memory.proofs.write_word.Statement.{statement}
 use Rattle.memory.proofs.write_word.Tie as tie
-use Rattle.memory.proofs.write_word.Reads as reads
-use Rattle.memory.proofs.write_word.Lts as lts
-use Rattle.memory.proofs.usable_of.Reads as usable-of-reads
 
--- src/lib.rt:54:9
 usable-of-requires : tie.Need-usable-of-requires
 usable-of-requires c κs = search needs
 
--- src/lib.rt:56:9
 same-length : tie.Need-same-length
 same-length c = search needs
 
--- src/lib.rt:56:9
 returns : tie.Need-returns
 returns c = (inside-no _ _ _ _ (c .before .usable-of .ensures) (search needs), withWord-no _ _ _ _ (inside-no _ _ _ _ (c .before .usable-of .ensures) (search needs)))
 
--- src/lib.rt:59:9
 same-length-2 : tie.Need-same-length-2
 same-length-2 c = search needs
 
--- src/lib.rt:59:9
 returns-2 : tie.Need-returns-2
 returns-2 c = (inside-no _ _ _ _ (c .before .before .usable-of .ensures) (search needs), withWord-no _ _ _ _ (inside-no _ _ _ _ (c .before .before .usable-of .ensures) (search needs)))
 
--- src/lib.rt:61:14
 cast-mem : tie.Need-cast-mem
 cast-mem c = search needs
 
--- src/lib.rt:61:5
 slice-write-mem : tie.Need-slice-write-mem
 slice-write-mem c = omega (arith, usable-le 18 (length (c .before .before .before .before .before .args .mem .now)))
 
--- src/lib.rt:62:18
 cast-mem-2 : tie.Need-cast-mem-2
 cast-mem-2 c = search needs
 
--- src/lib.rt:62:9
 add-mem : tie.Need-add-mem
 add-mem c = search needs
 
--- src/lib.rt:62:5
 slice-write-mem-2 : tie.Need-slice-write-mem-2
 slice-write-mem-2 c = simp length-set (omega (arith, usable-le 18 (length (c .before .before .before .before .before .args .mem .now))))
 
--- src/lib.rt:51:1
 same-length-3 : tie.Need-same-length-3
 same-length-3 c = search needs
 
--- src/lib.rt:51:1
 returns-3 : tie.Need-returns-3
 returns-3 c = (inside-yes _ _ _ _ (c .before .before .usable-of .ensures) (search needs), withWord-yes _ _ _ _ (inside-yes _ _ _ _ (c .before .before .usable-of .ensures) (search needs)))
 

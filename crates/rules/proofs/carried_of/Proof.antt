@@ -2,18 +2,13 @@ use Rattle.rules.proofs.Laws.{carried-few, carried-most}
 use borrow.Author.Needs.{needs}
 use Rattle.rules.proofs.carried_of.Statement.{statement}
 use Rattle.rules.proofs.carried_of.Tie as tie
-use Rattle.rules.proofs.carried_of.Reads as reads
-use Rattle.rules.proofs.carried_of.Lts as lts
 
--- src/lib.rt:33:20
 add-result : tie.Need-add-result
 add-result c = search needs
 
--- src/lib.rt:30:1
 returns : tie.Need-returns
 returns c = carried-few _ (c .if1 .taken)
 
--- src/lib.rt:30:1
 returns-2 : tie.Need-returns-2
 returns-2 c = carried-most _ (c .if1 .left)
 

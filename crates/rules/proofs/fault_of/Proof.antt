@@ -2,22 +2,16 @@ use native.Mathlib.Omega.{arith}
 use Rattle.rules.proofs.Laws.{sound, too-long, other-connection, other-type}
 use Rattle.rules.proofs.fault_of.Statement.{statement}
 use Rattle.rules.proofs.fault_of.Tie as tie
-use Rattle.rules.proofs.fault_of.Reads as reads
-use Rattle.rules.proofs.fault_of.Lts as lts
 
--- src/lib.rt:14:1
 returns : tie.Need-returns
 returns c = sound _ _ (c .before .before .before .args .size) (c .before .before .match .keys1) (c .before .match2 .keys1) (omega arith)
 
--- src/lib.rt:14:1
 returns-2 : tie.Need-returns-2
 returns-2 c = too-long _ _ (c .before .before .before .args .size) (c .before .before .match .keys1) (c .before .match2 .keys1) (omega arith)
 
--- src/lib.rt:14:1
 returns-3 : tie.Need-returns-3
 returns-3 c = other-connection _ _ _ (c .before .match .keys1) (c .match2 .rest .1)
 
--- src/lib.rt:14:1
 returns-4 : tie.Need-returns-4
 returns-4 c = other-type _ _ _ (c .match .rest .1)
 

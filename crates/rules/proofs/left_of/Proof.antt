@@ -1,14 +1,10 @@
 use Rattle.rules.proofs.Laws.{left-few, left-most}
 use Rattle.rules.proofs.left_of.Statement.{statement}
 use Rattle.rules.proofs.left_of.Tie as tie
-use Rattle.rules.proofs.left_of.Reads as reads
-use Rattle.rules.proofs.left_of.Lts as lts
 
--- src/lib.rt:37:1
 returns : tie.Need-returns
 returns c = left-few _ (c .if1 .taken)
 
--- src/lib.rt:37:1
 returns-2 : tie.Need-returns-2
 returns-2 c = left-most _ (c .if1 .left)
 

@@ -2,10 +2,7 @@ use mathlib.Core.Path.{refl}
 use Rattle.texts.specs.Texts.{zeros}
 use Rattle.texts.proofs.blank.Statement.{statement}
 use Rattle.texts.proofs.blank.Tie as tie
-use Rattle.texts.proofs.blank.Reads as reads
-use Rattle.texts.proofs.blank.Lts as lts
 
--- src/lib.rt:18:1
 returns : tie.Need-returns
 unfolding zeros
 returns c = refl

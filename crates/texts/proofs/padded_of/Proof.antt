@@ -8,9 +8,6 @@ use Rattle.texts.specs.Texts.{zeros}
 use Rattle.texts.proofs.Laws.{copy-none, copy-done, copy-more}
 use Rattle.texts.proofs.padded_of.Statement.{statement}
 use Rattle.texts.proofs.padded_of.Tie as tie
-use Rattle.texts.proofs.padded_of.Reads as reads
-use Rattle.texts.proofs.padded_of.Lts as lts
-use Rattle.texts.proofs.blank.Reads as blank-reads
 
 abbrev Inv-loop : tie.InvT-loop
 Inv-loop s room₀ i₀ room i = (i ≤ length s) × (room ≡ paste zeros 0 s i)
@@ -18,35 +15,27 @@ Inv-loop s room₀ i₀ room i = (i ≤ length s) × (room ≡ paste zeros 0 s i
 abbrev μ-loop : tie.MeasureT-loop
 μ-loop s room₀ i₀ room i = length s - i
 
--- src/lib.rt:70:20
 blank-requires : tie.Need-blank-requires Inv-loop μ-loop
 blank-requires c κs = search needs
 
--- src/lib.rt:72:5
 loop-holds : tie.Need-loop-holds Inv-loop μ-loop
 loop-holds c = (search needs, c .blank .ensures ∙ copy-none (c .before .before .args .s .now))
 
--- src/lib.rt:73:19
 shared-slice-read-room : tie.Need-shared-slice-read-room Inv-loop μ-loop
 shared-slice-read-room c = omega arith
 
--- src/lib.rt:73:9
 array-write-room : tie.Need-array-write-room Inv-loop μ-loop
 array-write-room c = omega arith
 
--- src/lib.rt:74:9
 add-i : tie.Need-add-i Inv-loop μ-loop
 add-i c = omega arith
 
--- src/lib.rt:72:5
 loop-less : tie.Need-loop-less Inv-loop μ-loop
 loop-less c = omega arith
 
--- src/lib.rt:72:5
 loop-again : tie.Need-loop-again Inv-loop μ-loop
 loop-again c = (omega arith, copy-more _ (c .before .before .before .before .before .args .s .now) (c .before .before .loop .i) (c .before .before .loop .inv .1) (omega arith) (omega arith))
 
--- src/lib.rt:66:1
 returns : tie.Need-returns Inv-loop μ-loop
 returns c = copy-done _ (c .before .before .before .before .args .s .now) (c .before .loop .i) (c .before .loop .inv .1) (omega arith)
 

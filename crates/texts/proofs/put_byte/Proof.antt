@@ -2,18 +2,13 @@ use Rattle.texts.proofs.Laws.{put-in, put-past}
 use borrow.Author.Needs.{needs}
 use Rattle.texts.proofs.put_byte.Statement.{statement}
 use Rattle.texts.proofs.put_byte.Tie as tie
-use Rattle.texts.proofs.put_byte.Reads as reads
-use Rattle.texts.proofs.put_byte.Lts as lts
 
--- src/lib.rt:36:9
 element-write-text : tie.Need-element-write-text
 element-write-text c = search needs
 
--- src/lib.rt:32:1
 returns : tie.Need-returns
 returns c = put-in _ _ _ (c .if1 .taken)
 
--- src/lib.rt:32:1
 returns-2 : tie.Need-returns-2
 returns-2 c = put-past _ _ _ (c .if1 .left)
 

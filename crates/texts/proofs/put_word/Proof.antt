@@ -2,43 +2,31 @@ use Rattle.texts.proofs.Laws.{with-two, with-one}
 use borrow.Author.Needs.{needs}
 use Rattle.texts.proofs.put_word.Statement.{statement}
 use Rattle.texts.proofs.put_word.Tie as tie
-use Rattle.texts.proofs.put_word.Reads as reads
-use Rattle.texts.proofs.put_word.Lts as lts
-use Rattle.texts.proofs.put_byte.Reads as put-byte-reads
 
--- src/lib.rt:58:13
 mul-i : tie.Need-mul-i
 mul-i c = search needs
 
--- src/lib.rt:59:23
 cast-put-byte : tie.Need-cast-put-byte
 cast-put-byte c = search needs
 
--- src/lib.rt:59:5
 put-byte-requires : tie.Need-put-byte-requires
 put-byte-requires c κs = search needs
 
--- src/lib.rt:60:8
 add-if1 : tie.Need-add-if1
 add-if1 c = search needs
 
--- src/lib.rt:61:24
 add-put-byte : tie.Need-add-put-byte
 add-put-byte c = search needs
 
--- src/lib.rt:61:31
 cast-put-byte-2 : tie.Need-cast-put-byte-2
 cast-put-byte-2 c = search needs
 
--- src/lib.rt:61:9
 put-byte-requires-2 : tie.Need-put-byte-requires-2
 put-byte-requires-2 c κs = search needs
 
--- src/lib.rt:55:1
 returns : tie.Need-returns
 returns c = with-two _ _ _ _ _ _ (search needs) (c .before .before .before .put-byte .ensures) (c .put-byte2 .ensures)
 
--- src/lib.rt:55:1
 returns-2 : tie.Need-returns-2
 returns-2 c = with-one _ _ _ _ _ (search needs) (c .before .put-byte .ensures)
 

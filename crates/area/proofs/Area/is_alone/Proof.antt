@@ -2,15 +2,10 @@ use Rattle.area.proofs.Laws.{alone-is}
 use borrow.Author.Needs.{needs}
 use Rattle.area.proofs.Area.is_alone.Statement.{statement}
 use Rattle.area.proofs.Area.is_alone.Tie as tie
-use Rattle.area.proofs.Area.is_alone.Reads as reads
-use Rattle.area.proofs.Area.is_alone.Lts as lts
-use Rattle.area.proofs.Area.slots_of.Reads as slots-of-reads
 
--- src/lib.rt:148:9
 slots-of-requires : tie.Need-slots-of-requires
 slots-of-requires c κs = search needs
 
--- src/lib.rt:145:5
 returns : tie.Need-returns
 returns c = alone-is _ _ (c .slots-of .ensures .0)
 

@@ -2,28 +2,19 @@ use Rattle.area.proofs.Laws.{slot-is}
 use borrow.Author.Needs.{needs}
 use Rattle.area.proofs.Area.slot_at.Statement.{statement}
 use Rattle.area.proofs.Area.slot_at.Tie as tie
-use Rattle.area.proofs.Area.slot_at.Reads as reads
-use Rattle.area.proofs.Area.slot_at.Lts as lts
-use Rattle.area.proofs.Area.base_of.Reads as base-of-reads
-use Rattle.area.proofs.Area.number.Reads as number-reads
 
--- src/lib.rt:116:9
 base-of-requires : tie.Need-base-of-requires
 base-of-requires c κs = search needs
 
--- src/lib.rt:116:30
 number-requires : tie.Need-number-requires
 number-requires c κs = search needs
 
--- src/lib.rt:116:26
 mul-result : tie.Need-mul-result
 mul-result c = search needs
 
--- src/lib.rt:116:9
 add-result : tie.Need-add-result
 add-result c = search needs
 
--- src/lib.rt:113:5
 returns : tie.Need-returns
 returns c = (slot-is _ _ _ _ (c .before .base-of .ensures .0) (c .number .ensures .0), search needs)
 

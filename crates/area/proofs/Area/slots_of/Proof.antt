@@ -3,41 +3,28 @@ use Rattle.area.specs.declared.Ring.the-variants.{Command, Response}
 use borrow.Author.Needs.{needs}
 use Rattle.area.proofs.Area.slots_of.Statement.{statement}
 use Rattle.area.proofs.Area.slots_of.Tie as tie
-use Rattle.area.proofs.Area.slots_of.Reads as reads
-use Rattle.area.proofs.Area.slots_of.Lts as lts
-use Rattle.area.proofs.power.Reads as power-reads
-use Rattle.words.proofs.hostword.command_exponent.Reads as command-exponent-reads
-use Rattle.words.proofs.hostword.response_exponent.Reads as response-exponent-reads
 
--- src/lib.rt:83:36
 enum-told : tie.Need-enum-told
 enum-told c = search needs
 
--- src/lib.rt:83:36
 command-exponent-requires : tie.Need-command-exponent-requires
 command-exponent-requires c κs = search needs
 
--- src/lib.rt:83:30
 power-requires : tie.Need-power-requires
 power-requires c κs = search needs
 
--- src/lib.rt:84:37
 enum-told-2 : tie.Need-enum-told-2
 enum-told-2 c = search needs
 
--- src/lib.rt:84:37
 response-exponent-requires : tie.Need-response-exponent-requires
 response-exponent-requires c κs = search needs
 
--- src/lib.rt:84:31
 power-requires-2 : tie.Need-power-requires-2
 power-requires-2 c κs = search needs
 
--- src/lib.rt:79:5
 returns : tie.Need-returns
 returns c = slots-is _ Command (c .before .before .enum-told .given .1) (c .before .command-exponent .ensures) (c .power .ensures)
 
--- src/lib.rt:79:5
 returns-2 : tie.Need-returns-2
 returns-2 c = slots-is _ Response (c .before .before .enum-told2 .given .1) (c .before .response-exponent .ensures) (c .power2 .ensures)
 

@@ -8,11 +8,6 @@ use Rattle.area.specs.Setup.{slotsSet}
 use Rattle.area.proofs.SetupLaws.{slots-none, slots-more, set-up}
 use Rattle.area.proofs.setup.set_up.Statement.{statement}
 use Rattle.area.proofs.setup.set_up.Tie as tie
-use Rattle.area.proofs.setup.set_up.Reads as reads
-use Rattle.area.proofs.setup.set_up.Lts as lts
-use Rattle.area.proofs.Area.count.Reads as count-reads
-use Rattle.area.proofs.setup.set_slot.Reads as set-slot-reads
-use Rattle.memory.proofs.clear_part.Reads as clear-part-reads
 
 abbrev Inv-loop : tie.InvT-loop
 Inv-loop area pool mem₀ count start j₀ mem j = (j ≤ count) × ((length mem ≡ length mem₀) × (mem ≡ slotsSet addressBits area pool j mem₀))
@@ -20,51 +15,39 @@ Inv-loop area pool mem₀ count start j₀ mem j = (j ≤ count) × ((length mem
 abbrev μ-loop : tie.MeasureT-loop
 μ-loop area pool mem₀ count start j₀ mem j = count - j
 
--- src/setup.rt:63:17
 count-requires : tie.Need-count-requires Inv-loop μ-loop
 count-requires c κs = search needs
 
--- src/setup.rt:63:17
 cast-count : tie.Need-cast-count Inv-loop μ-loop
 cast-count c = search needs
 
--- src/setup.rt:65:44
 mul-clear-part : tie.Need-mul-clear-part Inv-loop μ-loop
 mul-clear-part c = search needs
 
--- src/setup.rt:65:36
 add-clear-part : tie.Need-add-clear-part Inv-loop μ-loop
 add-clear-part c = search needs
 
--- src/setup.rt:65:5
 clear-part-requires : tie.Need-clear-part-requires Inv-loop μ-loop
 clear-part-requires c κs = search needs
 
--- src/setup.rt:67:5
 loop-holds : tie.Need-loop-holds Inv-loop μ-loop
 loop-holds c = (search needs, (refl, slots-none _ _ _ _))
 
--- src/setup.rt:68:9
 set-slot-requires : tie.Need-set-slot-requires Inv-loop μ-loop
 set-slot-requires c κs = omega arith
 
--- src/setup.rt:69:9
 add-j : tie.Need-add-j Inv-loop μ-loop
 add-j c = omega arith
 
--- src/setup.rt:67:5
 loop-less : tie.Need-loop-less Inv-loop μ-loop
 loop-less c = omega arith
 
--- src/setup.rt:67:5
 loop-again : tie.Need-loop-again Inv-loop μ-loop
 loop-again c = (omega arith, (omega arith, slots-more _ _ _ (c .before .before .before .before .before .loop .j) _ (c .before .before .before .before .before .loop .inv .1 .1) (c .before .before .set-slot .ensures)))
 
--- src/setup.rt:60:1
 same-length : tie.Need-same-length Inv-loop μ-loop
 same-length c = omega arith
 
--- src/setup.rt:60:1
 returns : tie.Need-returns Inv-loop μ-loop
 returns c = set-up _ _ _ _ (c .before .before .before .before .before .before .count .ensures .0) (omega arith) (c .before .before .before .before .clear-part .ensures .1) (c .before .loop .inv .1 .1)
 

@@ -1,26 +1,19 @@
 use Rattle.host.proofs.ShakeLaws.{accepts-command, accepts-response, accepts-vector, accepts-odd, accepts-rest}
 use Rattle.host.proofs.shaking.accepted.Statement.{statement}
 use Rattle.host.proofs.shaking.accepted.Tie as tie
-use Rattle.host.proofs.shaking.accepted.Reads as reads
-use Rattle.host.proofs.shaking.accepted.Lts as lts
 
--- src/shaking.rt:22:9
 returns : tie.Need-returns
 returns c = accepts-command _ _ (c .if1 .taken)
 
--- src/shaking.rt:25:9
 returns-2 : tie.Need-returns-2
 returns-2 c = accepts-response _ _ (c .before .before .if1 .left) (c .if2 .taken)
 
--- src/shaking.rt:28:9
 returns-3 : tie.Need-returns-3
 returns-3 c = accepts-vector _ _ (c .before .before .before .before .if1 .left) (c .before .before .if2 .left) (c .if3 .taken)
 
--- src/shaking.rt:31:9
 returns-4 : tie.Need-returns-4
 returns-4 c = accepts-odd _ _ (c .before .before .before .before .before .before .if1 .left) (c .before .before .before .before .if2 .left) (c .before .before .if3 .left) (c .if4 .taken)
 
--- src/shaking.rt:18:1
 returns-5 : tie.Need-returns-5
 returns-5 c = accepts-rest _ _ (c .before .before .before .before .before .before .before .if1 .left) (c .before .before .before .before .before .if2 .left) (c .before .before .before .if3 .left) (c .before .if4 .left)
 

@@ -1,38 +1,28 @@
 use borrow.Author.Needs.{needs}
 use Rattle.host.proofs.shaking.after_step.Statement.{statement}
 use Rattle.host.proofs.shaking.after_step.Tie as tie
-use Rattle.host.proofs.shaking.after_step.Reads as reads
-use Rattle.host.proofs.shaking.after_step.Lts as lts
 
--- src/shaking.rt:99:36
 enum-told : tie.Need-enum-told
 enum-told c = search needs
 
--- src/shaking.rt:100:36
 enum-told-2 : tie.Need-enum-told-2
 enum-told-2 c = search needs
 
--- src/shaking.rt:101:38
 enum-told-3 : tie.Need-enum-told-3
 enum-told-3 c = search needs
 
--- src/shaking.rt:102:23
 enum-told-4 : tie.Need-enum-told-4
 enum-told-4 c = search needs
 
--- src/shaking.rt:95:1
 returns : tie.Need-returns
 returns c = rw (c .enum-told .given .1)
 
--- src/shaking.rt:95:1
 returns-2 : tie.Need-returns-2
 returns-2 c = rw (c .enum-told2 .given .1)
 
--- src/shaking.rt:95:1
 returns-3 : tie.Need-returns-3
 returns-3 c = rw (c .enum-told3 .given .1)
 
--- src/shaking.rt:95:1
 returns-4 : tie.Need-returns-4
 returns-4 c = search needs
 

@@ -6,96 +6,70 @@ use Rattle.port.proofs.StateLaws.{by₂}
 use borrow.Author.Needs.{needs}
 use Rattle.port.proofs.fetch.fetch_touch.Statement.{statement}
 use Rattle.port.proofs.fetch.fetch_touch.Tie as tie
-use Rattle.port.proofs.fetch.fetch_touch.Reads as reads
-use Rattle.port.proofs.fetch.fetch_touch.Lts as lts
-use Rattle.area.proofs.Area.slot_at.Reads as slot-at-reads
-use Rattle.words.proofs.descriptor.high_word.Reads as high-word-reads
 
--- src/fetch.rt:33:9
 slot-at-requires : tie.Need-slot-at-requires
 slot-at-requires c κs = search needs
 
--- src/fetch.rt:34:20
 cast-envelope : tie.Need-cast-envelope
 cast-envelope c = search needs
 
--- src/fetch.rt:36:36
 enum-told : tie.Need-enum-told
 enum-told c = search needs
 
--- src/fetch.rt:36:36
 add-t8 : tie.Need-add-t8
 add-t8 c = search needs
 
--- src/fetch.rt:37:23
 enum-told-2 : tie.Need-enum-told-2
 enum-told-2 c = search needs
 
--- src/fetch.rt:38:26
 enum-told-3 : tie.Need-enum-told-3
 enum-told-3 c = search needs
 
--- src/fetch.rt:39:38
 enum-told-4 : tie.Need-enum-told-4
 enum-told-4 c = search needs
 
--- src/fetch.rt:39:38
 add-t9 : tie.Need-add-t9
 add-t9 c = search needs
 
--- src/fetch.rt:40:36
 enum-told-5 : tie.Need-enum-told-5
 enum-told-5 c = search needs
 
--- src/fetch.rt:40:36
 add-t10 : tie.Need-add-t10
 add-t10 c = search needs
 
--- src/fetch.rt:40:56
 cast-t11 : tie.Need-cast-t11
 cast-t11 c = search needs
 
--- src/fetch.rt:40:51
 mul-t12 : tie.Need-mul-t12
 mul-t12 c = search needs
 
--- src/fetch.rt:40:36
 add-t13 : tie.Need-add-t13
 add-t13 c = search needs
 
--- src/fetch.rt:41:40
 enum-told-6 : tie.Need-enum-told-6
 enum-told-6 c = search needs
 
--- src/fetch.rt:41:40
 add-t14 : tie.Need-add-t14
 add-t14 c = search needs
 
--- src/fetch.rt:41:50
 high-word-requires : tie.Need-high-word-requires
 high-word-requires c κs = search needs
 
--- src/fetch.rt:30:1
 returns : tie.Need-returns
 returns c = by₂ (fetchTouch _ _) _ (c .enum-told .given .1) (unfold fetchTouch in ap (λ (x : ℕ). Read (x + 2)) (c .before .before .before .slot-at .ensures .0))
 
--- src/fetch.rt:30:1
 returns-2 : tie.Need-returns-2
 returns-2 c = by₂ (fetchTouch _ _) _ (c .enum-told2 .given .1) (unfold fetchTouch in ap Read (c .before .before .before .slot-at .ensures .0))
 
--- src/fetch.rt:30:1
 returns-3 : tie.Need-returns-3
 returns-3 c = by₂ (fetchTouch _ _) _ (c .enum-told3 .given .1) (unfold fetchTouch in refl)
 
--- src/fetch.rt:30:1
 returns-4 : tie.Need-returns-4
 returns-4 c = by₂ (fetchTouch _ _) _ (c .enum-told4 .given .1) (unfold fetchTouch in refl)
 
--- src/fetch.rt:30:1
 returns-5 : tie.Need-returns-5
 returns-5 c = by₂ (fetchTouch _ _) _ (c .before .enum-told5 .given .1) (unfold fetchTouch in refl)
 
--- src/fetch.rt:30:1
 returns-6 : tie.Need-returns-6
 returns-6 c = by₂ (fetchTouch _ _) _ (c .before .enum-told6 .given .1) (unfold fetchTouch in ap₂ (λ (x y : ℕ). Write (x + 2) y) (c .before .before .before .before .slot-at .ensures .0) (c .high-word .ensures))
 

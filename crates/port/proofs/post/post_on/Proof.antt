@@ -7,28 +7,19 @@ use Rattle.port.proofs.SideLaws.{more-yes, more-no}
 use borrow.Author.Needs.{needs}
 use Rattle.port.proofs.post.post_on.Statement.{statement}
 use Rattle.port.proofs.post.post_on.Tie as tie
-use Rattle.port.proofs.post.post_on.Reads as reads
-use Rattle.port.proofs.post.post_on.Lts as lts
-use Rattle.port.proofs.state.Cursor.with_at.Reads as with-at-reads
-use Rattle.texts.proofs.words_of.Reads as words-of-reads
 
--- src/post.rt:46:12
 words-of-requires : tie.Need-words-of-requires
 words-of-requires c κs = search needs
 
--- src/post.rt:47:48
 cast-with-at : tie.Need-cast-with-at
 cast-with-at c = search needs
 
--- src/post.rt:47:38
 with-at-requires : tie.Need-with-at-requires
 with-at-requires c κs = search needs
 
--- src/post.rt:43:1
 returns : tie.Need-returns
 returns c = unfold postOn in yes _ _ (more-yes _ (c .before .before .words-of .ensures) (c .before .if1 .taken)) (ap (Posting Text) (c .with-at .ensures))
 
--- src/post.rt:43:1
 returns-2 : tie.Need-returns-2
 returns-2 c = unfold postOn in no _ _ (more-no _ (c .before .words-of .ensures) (c .if1 .left)) refl
 

@@ -2,62 +2,46 @@ use Rattle.port.proofs.StateLaws.{running-is}
 use borrow.Author.Needs.{needs}
 use Rattle.port.proofs.state.site_of.Statement.{statement}
 use Rattle.port.proofs.state.site_of.Tie as tie
-use Rattle.port.proofs.state.site_of.Reads as reads
-use Rattle.port.proofs.state.site_of.Lts as lts
 
--- src/state.rt:113:25
 enum-told : tie.Need-enum-told
 enum-told c = search needs
 
--- src/state.rt:114:27
 enum-told-2 : tie.Need-enum-told-2
 enum-told-2 c = search needs
 
--- src/state.rt:115:28
 enum-told-3 : tie.Need-enum-told-3
 enum-told-3 c = search needs
 
--- src/state.rt:116:31
 enum-told-4 : tie.Need-enum-told-4
 enum-told-4 c = search needs
 
--- src/state.rt:117:28
 enum-told-5 : tie.Need-enum-told-5
 enum-told-5 c = search needs
 
--- src/state.rt:118:24
 enum-known-phase : tie.Need-enum-known-phase
 enum-known-phase c = search needs
 
--- src/state.rt:119:29
 enum-told-6 : tie.Need-enum-told-6
 enum-told-6 c = search needs
 
--- src/state.rt:109:1
 returns : tie.Need-returns
 returns c = search needs
 
--- src/state.rt:109:1
 returns-2 : tie.Need-returns-2
 returns-2 c = search needs
 
--- src/state.rt:109:1
 returns-3 : tie.Need-returns-3
 returns-3 c = search needs
 
--- src/state.rt:109:1
 returns-4 : tie.Need-returns-4
 returns-4 c = search needs
 
--- src/state.rt:109:1
 returns-5 : tie.Need-returns-5
 returns-5 c = search needs
 
--- src/state.rt:109:1
 returns-6 : tie.Need-returns-6
 returns-6 c = running-is _ (c .before .phase .given .1)
 
--- src/state.rt:109:1
 returns-7 : tie.Need-returns-7
 returns-7 c = search needs
 

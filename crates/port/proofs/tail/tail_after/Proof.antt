@@ -6,60 +6,43 @@ use Rattle.port.proofs.StateLaws.{by, by₂, yes, no}
 use borrow.Author.Needs.{needs}
 use Rattle.port.proofs.tail.tail_after.Statement.{statement}
 use Rattle.port.proofs.tail.tail_after.Tie as tie
-use Rattle.port.proofs.tail.tail_after.Reads as reads
-use Rattle.port.proofs.tail.tail_after.Lts as lts
-use Rattle.area.proofs.vectored.Reads as vectored-reads
-use Rattle.words.proofs.descriptor.port_owns.Reads as port-owns-reads
 
--- src/tail.rt:40:28
 enum-told : tie.Need-enum-told
 enum-told c = search needs
 
--- src/tail.rt:41:46
 enum-told-2 : tie.Need-enum-told-2
 enum-told-2 c = search needs
 
--- src/tail.rt:42:25
 enum-known-w : tie.Need-enum-known-w
 enum-known-w c = search needs
 
--- src/tail.rt:43:20
 port-owns-requires : tie.Need-port-owns-requires
 port-owns-requires c κs = search needs
 
--- src/tail.rt:50:28
 enum-told-3 : tie.Need-enum-told-3
 enum-told-3 c = search needs
 
--- src/tail.rt:51:46
 enum-told-4 : tie.Need-enum-told-4
 enum-told-4 c = search needs
 
--- src/tail.rt:52:47
 enum-told-5 : tie.Need-enum-told-5
 enum-told-5 c = search needs
 
--- src/tail.rt:52:47
 vectored-requires : tie.Need-vectored-requires
 vectored-requires c κs = search needs
 
--- src/tail.rt:36:1
 returns : tie.Need-returns
 returns c = by₂ (tailAfter _) _ (c .before .before .enum-told .given .1) (by (tailAfter _ Test) (c .enum-told2 .given .1) (unfold tailAfter in refl))
 
--- src/tail.rt:36:1
 returns-2 : tie.Need-returns-2
 returns-2 c = by₂ (tailAfter _) _ (c .before .before .before .before .before .enum-told .given .1) (by (tailAfter _ Test) (c .before .before .before .w .given .1) (unfold tailAfter in yes _ _ (sym (c .before .port-owns .ensures) ∙ c .if1 .taken) refl))
 
--- src/tail.rt:36:1
 returns-3 : tie.Need-returns-3
 returns-3 c = by₂ (tailAfter _) _ (c .before .before .before .before .before .enum-told .given .1) (by (tailAfter _ Test) (c .before .before .before .w .given .1) (unfold tailAfter in no _ _ (sym (c .before .port-owns .ensures) ∙ c .if1 .left) refl))
 
--- src/tail.rt:36:1
 returns-4 : tie.Need-returns-4
 returns-4 c = by₂ (tailAfter _) _ (c .before .before .enum-told3 .given .1) (by (tailAfter _ Mark) (c .enum-told4 .given .1) (unfold tailAfter in refl))
 
--- src/tail.rt:36:1
 returns-5 : tie.Need-returns-5
 returns-5 c = by₂ (tailAfter _) _ (c .before .before .before .enum-told3 .given .1) (by (tailAfter _ Mark) (c .before .enum-told5 .given .1) (unfold tailAfter in ap Closed (c .vectored .ensures)))
 

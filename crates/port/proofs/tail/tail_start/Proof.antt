@@ -4,19 +4,13 @@ use Rattle.port.proofs.StateLaws.{yes, no}
 use borrow.Author.Needs.{needs}
 use Rattle.port.proofs.tail.tail_start.Statement.{statement}
 use Rattle.port.proofs.tail.tail_start.Tie as tie
-use Rattle.port.proofs.tail.tail_start.Reads as reads
-use Rattle.port.proofs.tail.tail_start.Lts as lts
-use Rattle.area.proofs.Area.is_alone.Reads as is-alone-reads
 
--- src/tail.rt:18:8
 is-alone-requires : tie.Need-is-alone-requires
 is-alone-requires c κs = search needs
 
--- src/tail.rt:15:1
 returns : tie.Need-returns
 returns c = unfold tailStart in yes _ _ (sym (c .before .is-alone .ensures) ∙ c .if1 .taken) refl
 
--- src/tail.rt:15:1
 returns-2 : tie.Need-returns-2
 returns-2 c = unfold tailStart in no _ _ (sym (c .before .is-alone .ensures) ∙ c .if1 .left) refl
 

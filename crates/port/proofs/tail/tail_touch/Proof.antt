@@ -7,40 +7,28 @@ use Rattle.port.proofs.StateLaws.{by₂}
 use borrow.Author.Needs.{needs}
 use Rattle.port.proofs.tail.tail_touch.Statement.{statement}
 use Rattle.port.proofs.tail.tail_touch.Tie as tie
-use Rattle.port.proofs.tail.tail_touch.Reads as reads
-use Rattle.port.proofs.tail.tail_touch.Lts as lts
-use Rattle.area.proofs.Area.before.Reads as before-reads
-use Rattle.area.proofs.Area.indicator_write.Reads as indicator-write-reads
-use Rattle.area.proofs.Area.slot_at.Reads as slot-at-reads
 
 enum-told : tie.Need-enum-told
 enum-told c = search needs
 
--- src/tail.rt:30:9
 enum-told-2 : tie.Need-enum-told-2
 enum-told-2 c = search needs
 
--- src/tail.rt:30:9
 indicator-write-requires : tie.Need-indicator-write-requires
 indicator-write-requires c κs = search needs
 
--- src/tail.rt:30:9
 returns : tie.Need-returns
 returns c = by₂ (tailTouch _ _ _) _ (c .before .enum-told2 .given .1) (unfold tailTouch in c .indicator-write .ensures)
 
--- src/tail.rt:32:36
 before-requires : tie.Need-before-requires
 before-requires c κs = search needs
 
--- src/tail.rt:32:17
 slot-at-requires : tie.Need-slot-at-requires
 slot-at-requires c κs = search needs
 
--- src/tail.rt:32:17
 add-t7 : tie.Need-add-t7
 add-t7 c = search needs
 
--- src/tail.rt:26:1
 returns-2 : tie.Need-returns-2
 returns-2 c = by₂ (tailTouch _ _ _) _ (c .before .before .enum-told .given .1) (unfold tailTouch in ap (λ (x : ℕ). Read (x + 2)) (c .slot-at .ensures .0 ∙ ap (slotAt _ _ _) (c .before .before2 .ensures)))
 

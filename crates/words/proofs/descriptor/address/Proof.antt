@@ -2,27 +2,19 @@ use Rattle.words.proofs.Laws.{address-is}
 use borrow.Author.Needs.{needs}
 use Rattle.words.proofs.descriptor.address.Statement.{statement}
 use Rattle.words.proofs.descriptor.address.Tie as tie
-use Rattle.words.proofs.descriptor.address.Reads as reads
-use Rattle.words.proofs.descriptor.address.Lts as lts
-use Rattle.words.proofs.field.part.Reads as part-reads
 
--- src/descriptor.rt:11:7
 part-requires : tie.Need-part-requires
 part-requires c κs = search needs
 
--- src/descriptor.rt:11:7
 cast-result : tie.Need-cast-result
 cast-result c = search needs
 
--- src/descriptor.rt:11:43
 part-requires-2 : tie.Need-part-requires-2
 part-requires-2 c κs = search needs
 
--- src/descriptor.rt:11:43
 cast-result-2 : tie.Need-cast-result-2
 cast-result-2 c = search needs
 
--- src/descriptor.rt:8:1
 returns : tie.Need-returns
 returns c = address-is _ _ _ _ (search needs) (c .before .part .ensures) (c .part2 .ensures)
 

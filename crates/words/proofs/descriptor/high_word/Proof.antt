@@ -2,24 +2,16 @@ use Rattle.words.proofs.Laws.{high-is}
 use borrow.Author.Needs.{needs}
 use Rattle.words.proofs.descriptor.high_word.Statement.{statement}
 use Rattle.words.proofs.descriptor.high_word.Tie as tie
-use Rattle.words.proofs.descriptor.high_word.Reads as reads
-use Rattle.words.proofs.descriptor.high_word.Lts as lts
-use Rattle.words.proofs.field.part.Reads as part-reads
-use Rattle.words.proofs.field.placed.Reads as placed-reads
 
--- src/descriptor.rt:53:5
 placed-requires : tie.Need-placed-requires
 placed-requires c κs = search needs
 
--- src/descriptor.rt:53:24
 placed-requires-2 : tie.Need-placed-requires-2
 placed-requires-2 c κs = search needs
 
--- src/descriptor.rt:53:43
 part-requires : tie.Need-part-requires
 part-requires c κs = search needs
 
--- src/descriptor.rt:50:1
 returns : tie.Need-returns
 returns c = high-is _ _ _ (c .before .before .before .args .rest) (c .before .before .before .args .port) (c .before .before .before .args .flag) (c .before .before .placed .ensures) (c .before .placed2 .ensures) (c .part .ensures)
 

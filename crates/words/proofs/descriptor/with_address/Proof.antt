@@ -2,24 +2,16 @@ use Rattle.words.proofs.Laws.{with-is}
 use borrow.Author.Needs.{needs}
 use Rattle.words.proofs.descriptor.with_address.Statement.{statement}
 use Rattle.words.proofs.descriptor.with_address.Tie as tie
-use Rattle.words.proofs.descriptor.with_address.Reads as reads
-use Rattle.words.proofs.descriptor.with_address.Lts as lts
-use Rattle.words.proofs.descriptor.high_half.Reads as high-half-reads
-use Rattle.words.proofs.field.part.Reads as part-reads
 
--- src/descriptor.rt:46:6
 part-requires : tie.Need-part-requires
 part-requires c κs = search needs
 
--- src/descriptor.rt:46:37
 high-half-requires : tie.Need-high-half-requires
 high-half-requires c κs = search needs
 
--- src/descriptor.rt:46:32
 part-requires-2 : tie.Need-part-requires-2
 part-requires-2 c κs = search needs
 
--- src/descriptor.rt:43:1
 returns : tie.Need-returns
 returns c = with-is _ _ _ _ _ (search needs) (c .before .before .part .ensures) (c .before .high-half .ensures) (c .part2 .ensures)
 

@@ -4,15 +4,10 @@ use lib.Dec.{eqb}
 use borrow.Author.Needs.{needs}
 use Rattle.words.proofs.field.is_set.Statement.{statement}
 use Rattle.words.proofs.field.is_set.Tie as tie
-use Rattle.words.proofs.field.is_set.Reads as reads
-use Rattle.words.proofs.field.is_set.Lts as lts
-use Rattle.words.proofs.field.part.Reads as part-reads
 
--- src/field.rt:18:5
 part-requires : tie.Need-part-requires
 part-requires c κs = search needs
 
--- src/field.rt:14:1
 returns : tie.Need-returns
 returns c = ap (λ (n : ℕ). eqb n 1) (c .part .ensures)
 

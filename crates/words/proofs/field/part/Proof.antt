@@ -4,30 +4,22 @@ use Rattle.words.proofs.Laws.{shifted-one, mask-is}
 use borrow.Author.Needs.{needs}
 use Rattle.words.proofs.field.part.Statement.{statement}
 use Rattle.words.proofs.field.part.Tie as tie
-use Rattle.words.proofs.field.part.Reads as reads
-use Rattle.words.proofs.field.part.Lts as lts
 
--- src/field.rt:10:11
 cast-result : tie.Need-cast-result
 cast-result c = search needs
 
--- src/field.rt:10:6
 shr-result : tie.Need-shr-result
 shr-result c = search needs
 
--- src/field.rt:10:27
 cast-result-2 : tie.Need-cast-result-2
 cast-result-2 c = search needs
 
--- src/field.rt:10:22
 shl-result : tie.Need-shl-result
 shl-result c = search needs
 
--- src/field.rt:10:21
 sub-result : tie.Need-sub-result
 sub-result c = rw (shifted-one (c .args .width) (c .pre .1)) (pow-pos (c .args .width))
 
--- src/field.rt:6:1
 returns : tie.Need-returns
 returns c = mask-is _ (c .args .width) (c .pre .1)
 

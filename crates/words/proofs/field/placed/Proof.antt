@@ -4,22 +4,16 @@ use Rattle.words.proofs.Laws.{shifted-one}
 use borrow.Author.Needs.{needs}
 use Rattle.words.proofs.field.placed.Statement.{statement}
 use Rattle.words.proofs.field.placed.Tie as tie
-use Rattle.words.proofs.field.placed.Reads as reads
-use Rattle.words.proofs.field.placed.Lts as lts
 
--- src/field.rt:26:17
 cast-result : tie.Need-cast-result
 cast-result c = search needs
 
--- src/field.rt:26:12
 shl-result : tie.Need-shl-result
 shl-result c = search needs
 
--- src/field.rt:22:1
 returns : tie.Need-returns
 returns c = rw (c .if1 .taken) (shifted-one (c .before .args .k) (c .before .pre) ∙ omega arith)
 
--- src/field.rt:22:1
 returns-2 : tie.Need-returns-2
 returns-2 c = rw (c .if1 .left) (omega arith)
 

@@ -2,28 +2,19 @@ use Rattle.words.proofs.Laws.{first-is}
 use borrow.Author.Needs.{needs}
 use Rattle.words.proofs.hostword.first.Statement.{statement}
 use Rattle.words.proofs.hostword.first.Tie as tie
-use Rattle.words.proofs.hostword.first.Reads as reads
-use Rattle.words.proofs.hostword.first.Lts as lts
-use Rattle.words.proofs.field.part.Reads as part-reads
-use Rattle.words.proofs.field.placed.Reads as placed-reads
 
--- src/hostword.rt:11:9
 part-requires : tie.Need-part-requires
 part-requires c κs = search needs
 
--- src/hostword.rt:12:9
 part-requires-2 : tie.Need-part-requires-2
 part-requires-2 c κs = search needs
 
--- src/hostword.rt:13:9
 part-requires-3 : tie.Need-part-requires-3
 part-requires-3 c κs = search needs
 
--- src/hostword.rt:14:28
 placed-requires : tie.Need-placed-requires
 placed-requires c κs = search needs
 
--- src/hostword.rt:8:1
 returns : tie.Need-returns
 returns c = first-is _ _ _ (c .before .before .before .before .args .vector4) (c .before .before .before .before .args .command) (c .before .before .before .before .args .response) _ (c .before .before .before .before .args .interrupts) (c .before .before .before .part .ensures) (c .before .before .part2 .ensures) (c .placed .ensures) (c .before .part3 .ensures)
 

@@ -2,15 +2,10 @@ use Rattle.words.proofs.Laws.{step2-is}
 use borrow.Author.Needs.{needs}
 use Rattle.words.proofs.shown.step2.Statement.{statement}
 use Rattle.words.proofs.shown.step2.Tie as tie
-use Rattle.words.proofs.shown.step2.Reads as reads
-use Rattle.words.proofs.shown.step2.Lts as lts
-use Rattle.words.proofs.field.part.Reads as part-reads
 
--- src/shown.rt:17:5
 part-requires : tie.Need-part-requires
 part-requires c κs = search needs
 
--- src/shown.rt:14:1
 returns : tie.Need-returns
 returns c = step2-is _ _ (search needs) (c .part .ensures)
 

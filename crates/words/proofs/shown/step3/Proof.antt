@@ -2,15 +2,10 @@ use Rattle.words.proofs.Laws.{step3-is}
 use borrow.Author.Needs.{needs}
 use Rattle.words.proofs.shown.step3.Statement.{statement}
 use Rattle.words.proofs.shown.step3.Tie as tie
-use Rattle.words.proofs.shown.step3.Reads as reads
-use Rattle.words.proofs.shown.step3.Lts as lts
-use Rattle.words.proofs.field.part.Reads as part-reads
 
--- src/shown.rt:24:5
 part-requires : tie.Need-part-requires
 part-requires c κs = search needs
 
--- src/shown.rt:21:1
 returns : tie.Need-returns
 returns c = step3-is _ _ (c .part .ensures)
 

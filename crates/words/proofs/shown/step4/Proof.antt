@@ -2,10 +2,7 @@ use borrow.Author.Needs.{needs}
 use Rattle.words.proofs.Laws.{step4-is}
 use Rattle.words.proofs.shown.step4.Statement.{statement}
 use Rattle.words.proofs.shown.step4.Tie as tie
-use Rattle.words.proofs.shown.step4.Reads as reads
-use Rattle.words.proofs.shown.step4.Lts as lts
 
--- src/shown.rt:28:1
 returns : tie.Need-returns
 returns c = step4-is _ (search needs)
 

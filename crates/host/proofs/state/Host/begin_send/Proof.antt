@@ -4,45 +4,31 @@ use Rattle.host.proofs.SendLaws.{begin-early, begin-idle, begin-busy}
 use borrow.Author.Needs.{needs}
 use Rattle.host.proofs.state.Host.begin_send.Statement.{statement}
 use Rattle.host.proofs.state.Host.begin_send.Tie as tie
-use Rattle.host.proofs.state.Host.begin_send.Reads as reads
-use Rattle.host.proofs.state.Host.begin_send.Lts as lts
-use Rattle.host.proofs.state.Host.is_ready.Reads as is-ready-reads
-use Rattle.host.proofs.state.Host.said.Reads as said-reads
-use Rattle.host.proofs.state.Host.send_with.Reads as send-with-reads
 
--- src/send.rt:150:13
 is-ready-requires : tie.Need-is-ready-requires
 is-ready-requires c κs = search needs
 
--- src/send.rt:151:13
 said-requires : tie.Need-said-requires
 said-requires c κs = search needs
 
--- src/send.rt:151:13
 returns : tie.Need-returns
 returns c = said-by refl (c .said .ensures) ∙ begin-early _ _ _ (was-false (c .before .if1 .taken) (c .before .before .is-ready .ensures))
 
--- src/send.rt:155:31
 enum-told : tie.Need-enum-told
 enum-told c = search needs
 
--- src/send.rt:155:31
 send-with-requires : tie.Need-send-with-requires
 send-with-requires c κs = search needs
 
--- src/send.rt:156:62
 enum-told-2 : tie.Need-enum-told-2
 enum-told-2 c = search needs
 
--- src/send.rt:156:38
 said-requires-2 : tie.Need-said-requires-2
 said-requires-2 c κs = search needs
 
--- src/send.rt:147:5
 returns-2 : tie.Need-returns-2
 returns-2 c = c .send-with .ensures ∙ begin-idle _ _ _ (was-true (c .before .before .before .if1 .left) (c .before .before .before .before .is-ready .ensures)) (c .before .enum-told .given .1)
 
--- src/send.rt:147:5
 returns-3 : tie.Need-returns-3
 returns-3 c = said-by refl (c .said2 .ensures) ∙ begin-busy _ _ _ (was-true (c .before .before .before .if1 .left) (c .before .before .before .before .is-ready .ensures)) (c .before .enum-told2 .given .1)
 

@@ -4,60 +4,40 @@ use Rattle.host.proofs.TakeLaws.{begin-early, begin-idle, begin-busy}
 use borrow.Author.Needs.{needs}
 use Rattle.host.proofs.state.Host.begin_take.Statement.{statement}
 use Rattle.host.proofs.state.Host.begin_take.Tie as tie
-use Rattle.host.proofs.state.Host.begin_take.Reads as reads
-use Rattle.host.proofs.state.Host.begin_take.Lts as lts
-use Rattle.host.proofs.state.Cursor.start.Reads as start-reads
-use Rattle.host.proofs.state.Host.is_ready.Reads as is-ready-reads
-use Rattle.host.proofs.state.Host.said.Reads as said-reads
-use Rattle.host.proofs.state.Host.take_goes.Reads as take-goes-reads
-use Rattle.host.proofs.state.Host.with_incoming.Reads as with-incoming-reads
-use Rattle.texts.proofs.blank.Reads as blank-reads
 
--- src/take.rt:150:13
 is-ready-requires : tie.Need-is-ready-requires
 is-ready-requires c κs = search needs
 
--- src/take.rt:151:13
 said-requires : tie.Need-said-requires
 said-requires c κs = search needs
 
--- src/take.rt:151:13
 returns : tie.Need-returns
 returns c = said-by refl (c .said .ensures) ∙ begin-early _ (was-false (c .before .if1 .taken) (c .before .before .is-ready .ensures))
 
--- src/take.rt:156:21
 enum-told : tie.Need-enum-told
 enum-told c = search needs
 
--- src/take.rt:156:21
 start-requires : tie.Need-start-requires
 start-requires c κs = search needs
 
--- src/take.rt:157:47
 blank-requires : tie.Need-blank-requires
 blank-requires c κs = search needs
 
--- src/take.rt:157:21
 with-incoming-requires : tie.Need-with-incoming-requires
 with-incoming-requires c κs = search needs
 
--- src/take.rt:158:17
 take-goes-requires : tie.Need-take-goes-requires
 take-goes-requires c κs = search needs
 
--- src/take.rt:160:60
 enum-told-2 : tie.Need-enum-told-2
 enum-told-2 c = search needs
 
--- src/take.rt:160:36
 said-requires-2 : tie.Need-said-requires-2
 said-requires-2 c κs = search needs
 
--- src/take.rt:147:5
 returns-2 : tie.Need-returns-2
 returns-2 c = c .take-goes .ensures ∙ begin-idle _ (was-true (c .before .before .before .before .before .before .if1 .left) (c .before .before .before .before .before .before .before .is-ready .ensures)) (c .before .before .before .before .enum-told .given .1) (c .before .before .before .start .ensures) (c .before .before .blank .ensures) (c .before .with-incoming .ensures)
 
--- src/take.rt:147:5
 returns-3 : tie.Need-returns-3
 returns-3 c = said-by refl (c .said2 .ensures) ∙ begin-busy _ (was-true (c .before .before .before .if1 .left) (c .before .before .before .before .is-ready .ensures)) (c .before .enum-told2 .given .1)
 

@@ -4,62 +4,43 @@ use Rattle.host.proofs.SetupLaws.{clear-early, clear-outside, clear-don
 use borrow.Author.Needs.{needs}
 use Rattle.host.proofs.state.Host.clear_indicator.Statement.{statement}
 use Rattle.host.proofs.state.Host.clear_indicator.Tie as tie
-use Rattle.host.proofs.state.Host.clear_indicator.Reads as reads
-use Rattle.host.proofs.state.Host.clear_indicator.Lts as lts
-use Rattle.area.proofs.Area.indicator_write.Reads as indicator-write-reads
-use Rattle.host.proofs.state.Host.said.Reads as said-reads
-use Rattle.host.proofs.state.finished.Reads as finished-reads
-use Rattle.memory.proofs.touched.Reads as touched-reads
 
--- src/setup.rt:93:13
 finished-requires : tie.Need-finished-requires
 finished-requires c κs = search needs
 
--- src/setup.rt:94:13
 said-requires : tie.Need-said-requires
 said-requires c κs = search needs
 
--- src/setup.rt:94:13
 returns : tie.Need-returns
 returns c = kept _ (said-by refl (c .said .ensures)) ∙ clear-early _ _ _ _ (was-false (c .before .if1 .taken) (c .before .before .finished .ensures))
 
--- src/setup.rt:96:38
 indicator-write-requires : tie.Need-indicator-write-requires
 indicator-write-requires c κs = search needs
 
--- src/setup.rt:96:13
 touched-requires : tie.Need-touched-requires
 touched-requires c κs = search needs
 
--- src/setup.rt:98:54
 enum-told : tie.Need-enum-told
 enum-told c = search needs
 
--- src/setup.rt:98:30
 said-requires-2 : tie.Need-said-requires-2
 said-requires-2 c κs = search needs
 
--- src/setup.rt:99:41
 enum-told-2 : tie.Need-enum-told-2
 enum-told-2 c = search needs
 
--- src/setup.rt:99:31
 said-requires-3 : tie.Need-said-requires-3
 said-requires-3 c κs = search needs
 
--- src/setup.rt:88:5
 same-length : tie.Need-same-length
 same-length c = search needs
 
--- src/setup.rt:88:5
 returns-2 : tie.Need-returns-2
 returns-2 c = kept _ (said-by refl (c .said2 .ensures)) ∙ clear-outside _ _ _ _ (was-true (c .before .before .before .before .before .before .before .before .if1 .left) (c .before .before .before .before .before .before .before .before .before .finished .ensures)) (c .before .before .before .before .before .before .indicator-write .ensures) (c .before .before .before .before .before .touched .ensures) (c .before .enum-told .given .1)
 
--- src/setup.rt:88:5
 same-length-2 : tie.Need-same-length-2
 same-length-2 c = search needs
 
--- src/setup.rt:88:5
 returns-3 : tie.Need-returns-3
 returns-3 c = kept _ (said-by refl (c .said3 .ensures)) ∙ clear-done _ _ _ _ (was-true (c .before .before .before .before .before .before .before .before .if1 .left) (c .before .before .before .before .before .before .before .before .before .finished .ensures)) (c .before .before .before .before .before .before .indicator-write .ensures) (c .before .before .before .before .before .touched .ensures) (c .before .enum-told2 .given .1)
 

@@ -2,19 +2,13 @@ use Rattle.host.proofs.StateLaws.{fresh-is}
 use borrow.Author.Needs.{needs}
 use Rattle.host.proofs.state.Host.fresh_at.Statement.{statement}
 use Rattle.host.proofs.state.Host.fresh_at.Tie as tie
-use Rattle.host.proofs.state.Host.fresh_at.Reads as reads
-use Rattle.host.proofs.state.Host.fresh_at.Lts as lts
-use Rattle.texts.proofs.blank.Reads as blank-reads
 
--- src/state.rt:183:13
 blank-requires : tie.Need-blank-requires
 blank-requires c κs = search needs
 
--- src/state.rt:184:13
 blank-requires-2 : tie.Need-blank-requires-2
 blank-requires-2 c κs = search needs
 
--- src/state.rt:180:5
 returns : tie.Need-returns
 returns c = fresh-is _ _ (c .before .blank .ensures) (c .blank2 .ensures)
 

@@ -3,19 +3,13 @@ use Rattle.host.proofs.StateLaws.{ready-yes, ready-no}
 use borrow.Author.Needs.{needs}
 use Rattle.host.proofs.state.Host.is_ready.Statement.{statement}
 use Rattle.host.proofs.state.Host.is_ready.Tie as tie
-use Rattle.host.proofs.state.Host.is_ready.Reads as reads
-use Rattle.host.proofs.state.Host.is_ready.Lts as lts
-use Rattle.host.proofs.state.finished.Reads as finished-reads
 
--- src/state.rt:207:12
 finished-requires : tie.Need-finished-requires
 finished-requires c κs = search needs
 
--- src/state.rt:203:5
 returns : tie.Need-returns
 returns c = ready-yes _ (sym (c .if1 .taken) ∙ c .before .finished .ensures)
 
--- src/state.rt:203:5
 returns-2 : tie.Need-returns-2
 returns-2 c = ready-no _ (sym (c .if1 .left) ∙ c .before .finished .ensures)
 

@@ -1,15 +1,10 @@
 use borrow.Author.Needs.{needs}
 use Rattle.host.proofs.state.Host.said.Statement.{statement}
 use Rattle.host.proofs.state.Host.said.Tie as tie
-use Rattle.host.proofs.state.Host.said.Reads as reads
-use Rattle.host.proofs.state.Host.said.Lts as lts
-use Rattle.answers.proofs.bare.Reads as bare-reads
 
--- src/state.rt:301:13
 bare-requires : tie.Need-bare-requires
 bare-requires c κs = search needs
 
--- src/state.rt:298:5
 returns : tie.Need-returns
 returns c = λ i. record { reply = c .bare .ensures i; host = c .before .args .self }
 

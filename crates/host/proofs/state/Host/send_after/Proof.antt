@@ -3,32 +3,22 @@ use Rattle.host.proofs.SendLaws.{after-outside, after-value}
 use borrow.Author.Needs.{needs}
 use Rattle.host.proofs.state.Host.send_after.Statement.{statement}
 use Rattle.host.proofs.state.Host.send_after.Tie as tie
-use Rattle.host.proofs.state.Host.send_after.Reads as reads
-use Rattle.host.proofs.state.Host.send_after.Lts as lts
-use Rattle.host.proofs.state.Host.send_refused.Reads as send-refused-reads
-use Rattle.host.proofs.state.Host.send_seen.Reads as send-seen-reads
 
--- src/send.rt:129:48
 enum-told : tie.Need-enum-told
 enum-told c = search needs
 
--- src/send.rt:129:30
 send-refused-requires : tie.Need-send-refused-requires
 send-refused-requires c κs = search needs
 
--- src/send.rt:130:25
 enum-known-w : tie.Need-enum-known-w
 enum-known-w c = search needs
 
--- src/send.rt:130:31
 send-seen-requires : tie.Need-send-seen-requires
 send-seen-requires c κs = search needs
 
--- src/send.rt:125:5
 returns : tie.Need-returns
 returns c = c .send-refused .ensures ∙ after-outside _ _ _ (c .before .enum-told .given .1)
 
--- src/send.rt:125:5
 returns-2 : tie.Need-returns-2
 returns-2 c = c .send-seen .ensures ∙ after-value _ _ _ (c .before .before .w .given .1)
 

@@ -4,98 +4,70 @@ use Rattle.host.specs.State.{withSender}
 use borrow.Author.Needs.{needs}
 use Rattle.host.proofs.state.Host.send_seen.Statement.{statement}
 use Rattle.host.proofs.state.Host.send_seen.Tie as tie
-use Rattle.host.proofs.state.Host.send_seen.Reads as reads
-use Rattle.host.proofs.state.Host.send_seen.Lts as lts
-use Rattle.host.proofs.send.send_on.Reads as send-on-reads
-use Rattle.host.proofs.state.Host.send_closed.Reads as send-closed-reads
-use Rattle.host.proofs.state.Host.send_goes.Reads as send-goes-reads
-use Rattle.host.proofs.state.Host.send_look.Reads as send-look-reads
 
--- src/send.rt:116:32
 enum-told : tie.Need-enum-told
 enum-told c = search needs
 
--- src/send.rt:116:32
 send-look-requires : tie.Need-send-look-requires
 send-look-requires c κs = search needs
 
--- src/send.rt:117:65
 enum-told-2 : tie.Need-enum-told-2
 enum-told-2 c = search needs
 
--- src/send.rt:117:34
 send-goes-requires : tie.Need-send-goes-requires
 send-goes-requires c κs = search needs
 
--- src/send.rt:118:49
 enum-told-3 : tie.Need-enum-told-3
 enum-told-3 c = search needs
 
--- src/send.rt:118:49
 send-on-requires : tie.Need-send-on-requires
 send-on-requires c κs = search needs
 
--- src/send.rt:118:34
 send-goes-requires-2 : tie.Need-send-goes-requires-2
 send-goes-requires-2 c κs = search needs
 
--- src/send.rt:119:58
 enum-told-4 : tie.Need-enum-told-4
 enum-told-4 c = search needs
 
--- src/send.rt:119:58
 cast-send-on : tie.Need-cast-send-on
 cast-send-on c = search needs
 
--- src/send.rt:119:58
 add-send-on : tie.Need-add-send-on
 add-send-on c = search needs
 
--- src/send.rt:119:47
 send-on-requires-2 : tie.Need-send-on-requires-2
 send-on-requires-2 c κs = search needs
 
--- src/send.rt:119:32
 send-goes-requires-3 : tie.Need-send-goes-requires-3
 send-goes-requires-3 c κs = search needs
 
--- src/send.rt:120:62
 enum-told-5 : tie.Need-enum-told-5
 enum-told-5 c = search needs
 
--- src/send.rt:120:31
 send-goes-requires-4 : tie.Need-send-goes-requires-4
 send-goes-requires-4 c κs = search needs
 
--- src/send.rt:121:32
 enum-told-6 : tie.Need-enum-told-6
 enum-told-6 c = search needs
 
--- src/send.rt:121:32
 send-closed-requires : tie.Need-send-closed-requires
 send-closed-requires c κs = search needs
 
--- src/send.rt:112:5
 returns : tie.Need-returns
 returns c = seen-by _ _ _ (c .before .enum-told .given .1) (c .send-look .ensures)
 
--- src/send.rt:112:5
 returns-2 : tie.Need-returns-2
 returns-2 c = seen-by _ _ _ (c .before .enum-told2 .given .1) (c .send-goes .ensures)
 
--- src/send.rt:112:5
 returns-3 : tie.Need-returns-3
 returns-3 c = seen-by _ _ _ (c .before .before .enum-told3 .given .1) (goes-by (withSender (c .before .before .before .before .args .self)) (c .before .send-on .ensures) (c .send-goes2 .ensures))
 
--- src/send.rt:112:5
 returns-4 : tie.Need-returns-4
 returns-4 c = seen-by _ _ _ (c .before .before .before .enum-told4 .given .1) (goes-by (withSender (c .before .before .before .before .before .args .self)) (c .before .send-on2 .ensures) (c .send-goes3 .ensures))
 
--- src/send.rt:112:5
 returns-5 : tie.Need-returns-5
 returns-5 c = seen-by _ _ _ (c .before .enum-told5 .given .1) (c .send-goes4 .ensures)
 
--- src/send.rt:112:5
 returns-6 : tie.Need-returns-6
 returns-6 c = seen-by _ _ _ (c .before .enum-told6 .given .1) (c .send-closed .ensures)
 

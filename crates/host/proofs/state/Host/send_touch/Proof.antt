@@ -2,124 +2,88 @@ use Rattle.host.proofs.SendLaws.{touches-none, touches-look, touches-le
 use borrow.Author.Needs.{needs}
 use Rattle.host.proofs.state.Host.send_touch.Statement.{statement}
 use Rattle.host.proofs.state.Host.send_touch.Tie as tie
-use Rattle.host.proofs.state.Host.send_touch.Reads as reads
-use Rattle.host.proofs.state.Host.send_touch.Lts as lts
-use Rattle.area.proofs.Area.envelope_at.Reads as envelope-at-reads
-use Rattle.area.proofs.Area.slot_at.Reads as slot-at-reads
-use Rattle.texts.proofs.word_of.Reads as word-of-reads
-use Rattle.words.proofs.descriptor.high_word.Reads as high-word-reads
-use Rattle.words.proofs.descriptor.low_word.Reads as low-word-reads
-use Rattle.words.proofs.descriptor.with_address.Reads as with-address-reads
 
--- src/send.rt:37:13
 slot-at-requires : tie.Need-slot-at-requires
 slot-at-requires c κs = search needs
 
--- src/send.rt:38:13
 envelope-at-requires : tie.Need-envelope-at-requires
 envelope-at-requires c κs = search needs
 
--- src/send.rt:41:20
 enum-told : tie.Need-enum-told
 enum-told c = search needs
 
--- src/send.rt:44:33
 add-t16 : tie.Need-add-t16
 add-t16 c = search needs
 
--- src/send.rt:47:34
 enum-told-2 : tie.Need-enum-told-2
 enum-told-2 c = search needs
 
--- src/send.rt:48:47
 enum-told-3 : tie.Need-enum-told-3
 enum-told-3 c = search needs
 
--- src/send.rt:48:47
 add-t17 : tie.Need-add-t17
 add-t17 c = search needs
 
--- src/send.rt:50:43
 enum-told-4 : tie.Need-enum-told-4
 enum-told-4 c = search needs
 
--- src/send.rt:50:21
 word-of-requires : tie.Need-word-of-requires
 word-of-requires c κs = search needs
 
--- src/send.rt:51:30
 add-t19 : tie.Need-add-t19
 add-t19 c = search needs
 
--- src/send.rt:51:50
 cast-t20 : tie.Need-cast-t20
 cast-t20 c = search needs
 
--- src/send.rt:51:45
 mul-t21 : tie.Need-mul-t21
 mul-t21 c = search needs
 
--- src/send.rt:51:30
 add-t22 : tie.Need-add-t22
 add-t22 c = search needs
 
--- src/send.rt:53:71
 enum-told-5 : tie.Need-enum-told-5
 enum-told-5 c = search needs
 
--- src/send.rt:53:71
 add-low-word : tie.Need-add-low-word
 add-low-word c = search needs
 
--- src/send.rt:53:50
 low-word-requires : tie.Need-low-word-requires
 low-word-requires c κs = search needs
 
--- src/send.rt:55:61
 enum-told-6 : tie.Need-enum-told-6
 enum-told-6 c = search needs
 
--- src/send.rt:55:61
 add-with-address : tie.Need-add-with-address
 add-with-address c = search needs
 
--- src/send.rt:55:21
 with-address-requires : tie.Need-with-address-requires
 with-address-requires c κs = search needs
 
--- src/send.rt:56:30
 add-t25 : tie.Need-add-t25
 add-t25 c = search needs
 
--- src/send.rt:56:40
 high-word-requires : tie.Need-high-word-requires
 high-word-requires c κs = search needs
 
--- src/send.rt:33:5
 returns : tie.Need-returns
 returns c = touches-none _ _ _ (c .before .enum-told .given .1) (c .if1 .taken)
 
--- src/send.rt:33:5
 returns-2 : tie.Need-returns-2
 returns-2 c = touches-look _ _ _ (c .before .before .before .before .slot-at .ensures .0) (c .before .enum-told .given .1) (c .if1 .left)
 
--- src/send.rt:33:5
 returns-3 : tie.Need-returns-3
 returns-3 c = touches-length _ _ _ (c .before .before .envelope-at .ensures .0) (c .enum-told2 .given .1)
 
--- src/send.rt:33:5
 returns-4 : tie.Need-returns-4
 returns-4 c = touches-header _ _ _ (c .before .before .envelope-at .ensures .0) (c .enum-told3 .given .1)
 
--- src/send.rt:33:5
 returns-5 : tie.Need-returns-5
 returns-5 c = touches-text _ _ _ (c .before .before .before .before .before .before .envelope-at .ensures .0) (c .before .before .before .before .enum-told4 .given .1) (c .before .word-of .ensures)
 
--- src/send.rt:33:5
 returns-6 : tie.Need-returns-6
 returns-6 c = touches-low _ _ _ (c .before .before .before .envelope-at .ensures .0) (c .before .before .before .before .slot-at .ensures .0) (c .before .enum-told5 .given .1) (c .low-word .ensures)
 
--- src/send.rt:33:5
 returns-7 : tie.Need-returns-7
 returns-7 c = touches-give _ _ _ (c .before .before .before .before .envelope-at .ensures .0) (c .before .before .before .before .before .slot-at .ensures .0) (c .before .before .enum-told6 .given .1) (c .before .with-address .ensures) (c .high-word .ensures)
 

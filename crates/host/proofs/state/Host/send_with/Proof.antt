@@ -4,43 +4,28 @@ use Rattle.host.proofs.SendLaws.{with-long, with-fitting}
 use borrow.Author.Needs.{needs}
 use Rattle.host.proofs.state.Host.send_with.Statement.{statement}
 use Rattle.host.proofs.state.Host.send_with.Tie as tie
-use Rattle.host.proofs.state.Host.send_with.Reads as reads
-use Rattle.host.proofs.state.Host.send_with.Lts as lts
-use Rattle.host.proofs.state.Cursor.start.Reads as start-reads
-use Rattle.host.proofs.state.Host.said.Reads as said-reads
-use Rattle.host.proofs.state.Host.send_goes.Reads as send-goes-reads
-use Rattle.host.proofs.state.Host.with_outgoing.Reads as with-outgoing-reads
-use Rattle.texts.proofs.padded_of.Reads as padded-of-reads
 
--- src/send.rt:139:13
 said-requires : tie.Need-said-requires
 said-requires c κs = search needs
 
--- src/send.rt:139:13
 returns : tie.Need-returns
 returns c = said-by refl (c .said .ensures) ∙ with-long (c .before .before .before .args .self) (c .before .before .before .args .x) (c .before .before .before .args .text .now) (c .before .if1 .taken)
 
--- src/send.rt:141:49
 cast-start : tie.Need-cast-start
 cast-start c = search needs
 
--- src/send.rt:141:13
 start-requires : tie.Need-start-requires
 start-requires c κs = search needs
 
--- src/send.rt:142:39
 padded-of-requires : tie.Need-padded-of-requires
 padded-of-requires c κs = search needs
 
--- src/send.rt:142:13
 with-outgoing-requires : tie.Need-with-outgoing-requires
 with-outgoing-requires c κs = search needs
 
--- src/send.rt:143:9
 send-goes-requires : tie.Need-send-goes-requires
 send-goes-requires c κs = search needs
 
--- src/send.rt:135:5
 returns-2 : tie.Need-returns-2
 returns-2 c = c .send-goes .ensures ∙ with-fitting _ _ _ (c .before .before .before .before .if1 .left) (c .before .before .before .start .ensures) (c .before .before .padded-of .ensures) (c .before .with-outgoing .ensures)
 

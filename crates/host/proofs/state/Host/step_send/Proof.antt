@@ -5,59 +5,40 @@ use Rattle.host.proofs.SendLaws.{step-early, step-idle, step-sending}
 use borrow.Author.Needs.{needs}
 use Rattle.host.proofs.state.Host.step_send.Statement.{statement}
 use Rattle.host.proofs.state.Host.step_send.Tie as tie
-use Rattle.host.proofs.state.Host.step_send.Reads as reads
-use Rattle.host.proofs.state.Host.step_send.Lts as lts
-use Rattle.host.proofs.state.Host.is_ready.Reads as is-ready-reads
-use Rattle.host.proofs.state.Host.send_after.Reads as send-after-reads
-use Rattle.host.proofs.state.Host.send_refused.Reads as send-refused-reads
-use Rattle.host.proofs.state.Host.send_touch.Reads as send-touch-reads
-use Rattle.memory.proofs.touched.Reads as touched-reads
 
--- src/send.rt:164:13
 is-ready-requires : tie.Need-is-ready-requires
 is-ready-requires c κs = search needs
 
--- src/send.rt:165:13
 send-refused-requires : tie.Need-send-refused-requires
 send-refused-requires c κs = search needs
 
--- src/send.rt:165:13
 returns : tie.Need-returns
 returns c = kept _ (c .send-refused .ensures) ∙ step-early _ _ _ (was-false (c .before .if1 .taken) (c .before .before .is-ready .ensures))
 
--- src/send.rt:169:49
 enum-told : tie.Need-enum-told
 enum-told c = search needs
 
--- src/send.rt:169:31
 send-refused-requires-2 : tie.Need-send-refused-requires-2
 send-refused-requires-2 c κs = search needs
 
--- src/send.rt:170:29
 enum-known-side : tie.Need-enum-known-side
 enum-known-side c = search needs
 
--- src/send.rt:171:46
 send-touch-requires : tie.Need-send-touch-requires
 send-touch-requires c κs = search needs
 
--- src/send.rt:171:21
 touched-requires : tie.Need-touched-requires
 touched-requires c κs = search needs
 
--- src/send.rt:172:17
 send-after-requires : tie.Need-send-after-requires
 send-after-requires c κs = search needs
 
--- src/send.rt:161:5
 returns-2 : tie.Need-returns-2
 returns-2 c = kept _ (c .send-refused2 .ensures) ∙ step-idle _ _ _ (was-true (c .before .before .before .if1 .left) (c .before .before .before .before .is-ready .ensures)) (c .before .enum-told .given .1)
 
--- src/send.rt:161:5
 same-length : tie.Need-same-length
 same-length c = search needs
 
--- src/send.rt:161:5
 returns-3 : tie.Need-returns-3
 returns-3 c = touched-one _ _ (sendAfter _ _ _) (c .before .before .before .before .send-touch .ensures) (c .before .before .before .touched .ensures) (c .send-after .ensures) ∙ step-sending _ _ _ (was-true (c .before .before .before .before .before .before .before .before .before .if1 .left) (c .before .before .before .before .before .before .before .before .before .before .is-ready .ensures)) (c .before .before .before .before .before .before .before .side .given .1)
 

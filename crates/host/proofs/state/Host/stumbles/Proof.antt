@@ -3,32 +3,22 @@ use Rattle.host.proofs.ShakeLaws.{asked-by, stumbles-once, stumbles-dea
 use borrow.Author.Needs.{needs}
 use Rattle.host.proofs.state.Host.stumbles.Statement.{statement}
 use Rattle.host.proofs.state.Host.stumbles.Tie as tie
-use Rattle.host.proofs.state.Host.stumbles.Reads as reads
-use Rattle.host.proofs.state.Host.stumbles.Lts as lts
-use Rattle.host.proofs.state.Host.asks.Reads as asks-reads
-use Rattle.host.proofs.state.Host.with_shake.Reads as with-shake-reads
 
--- src/shaking.rt:135:13
 with-shake-requires : tie.Need-with-shake-requires
 with-shake-requires c κs = search needs
 
--- src/shaking.rt:135:13
 asks-requires : tie.Need-asks-requires
 asks-requires c κs = search needs
 
--- src/shaking.rt:137:13
 with-shake-requires-2 : tie.Need-with-shake-requires-2
 with-shake-requires-2 c κs = search needs
 
--- src/shaking.rt:137:13
 asks-requires-2 : tie.Need-asks-requires-2
 asks-requires-2 c κs = search needs
 
--- src/shaking.rt:131:5
 returns : tie.Need-returns
 returns c = asked-by (c .before .with-shake .ensures) (c .asks .ensures) ∙ stumbles-dead _ (c .before .before .if1 .taken)
 
--- src/shaking.rt:131:5
 returns-2 : tie.Need-returns-2
 returns-2 c = asked-by (c .before .with-shake2 .ensures) (c .asks2 .ensures) ∙ stumbles-once _ (c .before .before .if1 .left)
 

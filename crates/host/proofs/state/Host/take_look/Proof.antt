@@ -3,34 +3,22 @@ use Rattle.host.proofs.TakeLaws.{look-empty, look-full}
 use borrow.Author.Needs.{needs}
 use Rattle.host.proofs.state.Host.take_look.Statement.{statement}
 use Rattle.host.proofs.state.Host.take_look.Tie as tie
-use Rattle.host.proofs.state.Host.take_look.Reads as reads
-use Rattle.host.proofs.state.Host.take_look.Lts as lts
-use Rattle.host.proofs.state.Cursor.with_high.Reads as with-high-reads
-use Rattle.host.proofs.state.Host.take_goes.Reads as take-goes-reads
-use Rattle.host.proofs.state.Host.take_refused.Reads as take-refused-reads
-use Rattle.words.proofs.descriptor.port_owns.Reads as port-owns-reads
 
--- src/take.rt:67:12
 port-owns-requires : tie.Need-port-owns-requires
 port-owns-requires c κs = search needs
 
--- src/take.rt:68:13
 take-refused-requires : tie.Need-take-refused-requires
 take-refused-requires c κs = search needs
 
--- src/take.rt:70:61
 with-high-requires : tie.Need-with-high-requires
 with-high-requires c κs = search needs
 
--- src/take.rt:70:13
 take-goes-requires : tie.Need-take-goes-requires
 take-goes-requires c κs = search needs
 
--- src/take.rt:64:5
 returns : tie.Need-returns
 returns c = c .take-refused .ensures ∙ look-empty _ _ _ (sym (c .before .if1 .taken) ∙ c .before .before .port-owns .ensures)
 
--- src/take.rt:64:5
 returns-2 : tie.Need-returns-2
 returns-2 c = c .take-goes .ensures ∙ look-full _ _ _ (sym (c .before .before .if1 .left) ∙ c .before .before .before .port-owns .ensures) (c .before .with-high .ensures)
 

@@ -2,97 +2,70 @@ use Rattle.host.proofs.TakeLaws.{touches-look, touches-length, touches-
 use borrow.Author.Needs.{needs}
 use Rattle.host.proofs.state.Host.take_touch.Statement.{statement}
 use Rattle.host.proofs.state.Host.take_touch.Tie as tie
-use Rattle.host.proofs.state.Host.take_touch.Reads as reads
-use Rattle.host.proofs.state.Host.take_touch.Lts as lts
-use Rattle.area.proofs.Area.envelope_at.Reads as envelope-at-reads
-use Rattle.area.proofs.Area.slot_at.Reads as slot-at-reads
-use Rattle.words.proofs.descriptor.high_word.Reads as high-word-reads
 
--- src/take.rt:38:13
 slot-at-requires : tie.Need-slot-at-requires
 slot-at-requires c κs = search needs
 
--- src/take.rt:39:13
 envelope-at-requires : tie.Need-envelope-at-requires
 envelope-at-requires c κs = search needs
 
--- src/take.rt:41:44
 enum-told : tie.Need-enum-told
 enum-told c = search needs
 
--- src/take.rt:41:44
 add-t9 : tie.Need-add-t9
 add-t9 c = search needs
 
--- src/take.rt:42:34
 enum-told-2 : tie.Need-enum-told-2
 enum-told-2 c = search needs
 
--- src/take.rt:43:46
 enum-told-3 : tie.Need-enum-told-3
 enum-told-3 c = search needs
 
--- src/take.rt:43:46
 add-t10 : tie.Need-add-t10
 add-t10 c = search needs
 
--- src/take.rt:44:44
 enum-told-4 : tie.Need-enum-told-4
 enum-told-4 c = search needs
 
--- src/take.rt:44:44
 add-t11 : tie.Need-add-t11
 add-t11 c = search needs
 
--- src/take.rt:44:64
 cast-t12 : tie.Need-cast-t12
 cast-t12 c = search needs
 
--- src/take.rt:44:59
 mul-t13 : tie.Need-mul-t13
 mul-t13 c = search needs
 
--- src/take.rt:44:44
 add-t14 : tie.Need-add-t14
 add-t14 c = search needs
 
--- src/take.rt:45:34
 enum-told-5 : tie.Need-enum-told-5
 enum-told-5 c = search needs
 
--- src/take.rt:46:45
 enum-told-6 : tie.Need-enum-told-6
 enum-told-6 c = search needs
 
--- src/take.rt:46:45
 add-t15 : tie.Need-add-t15
 add-t15 c = search needs
 
--- src/take.rt:46:55
 high-word-requires : tie.Need-high-word-requires
 high-word-requires c κs = search needs
 
--- src/take.rt:34:5
 returns : tie.Need-returns
 returns c = touches-look _ _ _ (c .before .before .before .slot-at .ensures .0) (c .enum-told .given .1)
 
--- src/take.rt:34:5
 returns-2 : tie.Need-returns-2
 returns-2 c = touches-length _ _ _ (c .before .before .envelope-at .ensures .0) (c .enum-told2 .given .1)
 
--- src/take.rt:34:5
 returns-3 : tie.Need-returns-3
 returns-3 c = touches-header _ _ _ (c .before .before .envelope-at .ensures .0) (c .enum-told3 .given .1)
 
--- src/take.rt:34:5
 returns-4 : tie.Need-returns-4
 returns-4 c = touches-text _ _ _ (c .before .before .before .envelope-at .ensures .0) (c .before .enum-told4 .given .1)
 
--- src/take.rt:34:5
 returns-5 : tie.Need-returns-5
 returns-5 c = touches-refill _ _ _ (c .before .before .envelope-at .ensures .0) (c .enum-told5 .given .1)
 
--- src/take.rt:34:5
 returns-6 : tie.Need-returns-6
 returns-6 c = touches-give _ _ _ (c .before .before .before .before .slot-at .ensures .0) (c .before .enum-told6 .given .1) (c .high-word .ensures)
 

@@ -4,36 +4,25 @@ use Rattle.host.proofs.TakeLaws.{taken-is}
 use borrow.Author.Needs.{needs}
 use Rattle.host.proofs.state.Host.taken_one.Statement.{statement}
 use Rattle.host.proofs.state.Host.taken_one.Tie as tie
-use Rattle.host.proofs.state.Host.taken_one.Reads as reads
-use Rattle.host.proofs.state.Host.taken_one.Lts as lts
-use Rattle.area.proofs.Area.next.Reads as next-reads
-use Rattle.host.proofs.state.Host.with_counts.Reads as with-counts-reads
 
--- src/take.rt:103:19
 cast-sum : tie.Need-cast-sum
 cast-sum c = search needs
 
--- src/take.rt:103:48
 cast-sum-2 : tie.Need-cast-sum-2
 cast-sum-2 c = search needs
 
--- src/take.rt:103:19
 add-sum : tie.Need-add-sum
 add-sum c = search needs
 
--- src/take.rt:104:38
 cast-account : tie.Need-cast-account
 cast-account c = search needs
 
--- src/take.rt:107:19
 next-requires : tie.Need-next-requires
 next-requires c κs = search needs
 
--- src/take.rt:110:9
 with-counts-requires : tie.Need-with-counts-requires
 with-counts-requires c κs = search needs
 
--- src/take.rt:99:5
 returns : tie.Need-returns
 returns c = taken-is _ _ (c .before .next .ensures) (⊎-elim (λ p. omega (arith, p .0 .taken, p .1)) (λ p. omega (arith, p .0 .left, p .1)) (c .before .before .if1 .came)) (c .with-counts .ensures)
 

@@ -3,44 +3,31 @@ use Rattle.host.proofs.ShakeLaws.{asked-by, late-dead, late-expecting, 
 use borrow.Author.Needs.{needs}
 use Rattle.host.proofs.state.Host.time_is_up.Statement.{statement}
 use Rattle.host.proofs.state.Host.time_is_up.Tie as tie
-use Rattle.host.proofs.state.Host.time_is_up.Reads as reads
-use Rattle.host.proofs.state.Host.time_is_up.Lts as lts
-use Rattle.host.proofs.state.Host.asks.Reads as asks-reads
-use Rattle.host.proofs.state.Host.stumbles.Reads as stumbles-reads
 
--- src/shaking.rt:199:38
 enum-told : tie.Need-enum-told
 enum-told c = search needs
 
--- src/shaking.rt:199:28
 asks-requires : tie.Need-asks-requires
 asks-requires c κs = search needs
 
--- src/shaking.rt:200:30
 enum-known-shake : tie.Need-enum-known-shake
 enum-known-shake c = search needs
 
--- src/shaking.rt:200:42
 stumbles-requires : tie.Need-stumbles-requires
 stumbles-requires c κs = search needs
 
--- src/shaking.rt:201:42
 enum-told-2 : tie.Need-enum-told-2
 enum-told-2 c = search needs
 
--- src/shaking.rt:201:32
 asks-requires-2 : tie.Need-asks-requires-2
 asks-requires-2 c κs = search needs
 
--- src/shaking.rt:194:5
 returns : tie.Need-returns
 returns c = asked-by refl (c .asks .ensures) ∙ late-dead _ (c .before .enum-told .given .1)
 
--- src/shaking.rt:194:5
 returns-2 : tie.Need-returns-2
 returns-2 c = c .stumbles .ensures ∙ late-expecting _ (c .before .before .shake .given .1)
 
--- src/shaking.rt:194:5
 returns-3 : tie.Need-returns-3
 returns-3 c = asked-by refl (c .asks2 .ensures) ∙ late-none _ (c .before .enum-told2 .given .1)
 

@@ -6,64 +6,46 @@ use Rattle.port.proofs.PostLaws.{begun-off, begun-on}
 use borrow.Author.Needs.{needs}
 use Rattle.port.proofs.state.Port.begin_post.Statement.{statement}
 use Rattle.port.proofs.state.Port.begin_post.Tie as tie
-use Rattle.port.proofs.state.Port.begin_post.Reads as reads
-use Rattle.port.proofs.state.Port.begin_post.Lts as lts
-use Rattle.port.proofs.state.Port.post_with.Reads as post-with-reads
-use Rattle.port.proofs.state.Port.said.Reads as said-reads
-use Rattle.port.proofs.state.site_of.Reads as site-of-reads
 
--- src/post.rt:221:13
 site-of-requires : tie.Need-site-of-requires
 site-of-requires c κs = search needs
 
 enum-told : tie.Need-enum-told
 enum-told c = search needs
 
--- src/post.rt:223:44
 enum-told-2 : tie.Need-enum-told-2
 enum-told-2 c = search needs
 
--- src/post.rt:223:13
 said-requires : tie.Need-said-requires
 said-requires c κs = search needs
 
--- src/post.rt:223:13
 returns : tie.Need-returns
 returns c = begun-off _ _ _ (c .before .before .before .site-of .ensures) (c .before .enum-told2 .given .1) (said-is (Refused NotRunning) refl (c .said .ensures))
 
--- src/post.rt:227:31
 enum-told-3 : tie.Need-enum-told-3
 enum-told-3 c = search needs
 
--- src/post.rt:227:31
 post-with-requires : tie.Need-post-with-requires
 post-with-requires c κs = search needs
 
--- src/post.rt:228:62
 enum-told-4 : tie.Need-enum-told-4
 enum-told-4 c = search needs
 
--- src/post.rt:228:38
 said-requires-2 : tie.Need-said-requires-2
 said-requires-2 c κs = search needs
 
--- src/post.rt:229:63
 enum-told-5 : tie.Need-enum-told-5
 enum-told-5 c = search needs
 
--- src/post.rt:229:39
 said-requires-3 : tie.Need-said-requires-3
 said-requires-3 c κs = search needs
 
--- src/post.rt:217:5
 returns-2 : tie.Need-returns-2
 returns-2 c = begun-on _ _ _ (c .before .before .before .before .before .site-of .ensures) (c .before .before .before .enum-told .given .1) (c .before .enum-told3 .given .1) (c .post-with .ensures)
 
--- src/post.rt:217:5
 returns-3 : tie.Need-returns-3
 returns-3 c = begun-on _ _ _ (c .before .before .before .before .before .site-of .ensures) (c .before .before .before .enum-told .given .1) (c .before .enum-told4 .given .1) (said-is (Refused Busy) refl (c .said2 .ensures))
 
--- src/post.rt:217:5
 returns-4 : tie.Need-returns-4
 returns-4 c = begun-on _ _ _ (c .before .before .before .before .before .site-of .ensures) (c .before .before .before .enum-told .given .1) (c .before .enum-told5 .given .1) (said-is (Refused Busy) refl (c .said3 .ensures))
 

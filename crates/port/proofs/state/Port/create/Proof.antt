@@ -5,37 +5,25 @@ use Rattle.port.proofs.ShakeLaws.{limit-low, limit-high, limit-yes}
 use borrow.Author.Needs.{needs}
 use Rattle.port.proofs.state.Port.create.Statement.{statement}
 use Rattle.port.proofs.state.Port.create.Tie as tie
-use Rattle.port.proofs.state.Port.create.Reads as reads
-use Rattle.port.proofs.state.Port.create.Lts as lts
-use Rattle.port.proofs.state.Port.limited.Reads as limited-reads
-use Rattle.port.proofs.state.Port.new.Reads as new-reads
-use Rattle.port.proofs.state.Port.said.Reads as said-reads
 
--- src/shake.rt:27:13
 limited-requires : tie.Need-limited-requires
 limited-requires c κs = search needs
 
--- src/shake.rt:27:13
 returns : tie.Need-returns
 returns c = unfold created in no _ _ (limit-low _ (c .before .if1 .taken)) (c .limited .ensures)
 
--- src/shake.rt:30:13
 limited-requires-2 : tie.Need-limited-requires-2
 limited-requires-2 c κs = search needs
 
--- src/shake.rt:30:13
 returns-2 : tie.Need-returns-2
 returns-2 c = unfold created in no _ _ (limit-high _ (c .before .before .if1 .left) (c .before .if2 .taken)) (c .limited2 .ensures)
 
--- src/shake.rt:32:9
 new-requires : tie.Need-new-requires
 new-requires c κs = search needs
 
--- src/shake.rt:32:9
 said-requires : tie.Need-said-requires
 said-requires c κs = search needs
 
--- src/shake.rt:22:5
 returns-3 : tie.Need-returns-3
 returns-3 c = unfold created in yes _ _ (limit-yes _ (c .before .before .before .if1 .left) (c .before .before .if2 .left)) (said-is Done (c .before .new .ensures) (c .said .ensures))
 

@@ -4,19 +4,13 @@ use Rattle.port.proofs.StateLaws.{yes, no}
 use borrow.Author.Needs.{needs}
 use Rattle.port.proofs.state.Port.credits_of.Statement.{statement}
 use Rattle.port.proofs.state.Port.credits_of.Tie as tie
-use Rattle.port.proofs.state.Port.credits_of.Reads as reads
-use Rattle.port.proofs.state.Port.credits_of.Lts as lts
-use Rattle.rules.proofs.carried_of.Reads as carried-of-reads
 
--- src/post.rt:59:13
 carried-of-requires : tie.Need-carried-of-requires
 carried-of-requires c κs = search needs
 
--- src/post.rt:55:5
 returns : tie.Need-returns
 returns c = unfold creditsOf in yes _ _ (c .before .if1 .taken) (c .carried-of .ensures)
 
--- src/post.rt:55:5
 returns-2 : tie.Need-returns-2
 returns-2 c = unfold creditsOf in no _ _ (c .if1 .left) refl
 

@@ -5,37 +5,25 @@ use Rattle.port.proofs.StateLaws.{by}
 use borrow.Author.Needs.{needs}
 use Rattle.port.proofs.state.Port.fetch_after.Statement.{statement}
 use Rattle.port.proofs.state.Port.fetch_after.Tie as tie
-use Rattle.port.proofs.state.Port.fetch_after.Reads as reads
-use Rattle.port.proofs.state.Port.fetch_after.Lts as lts
-use Rattle.port.proofs.fetch.fetch_outside.Reads as fetch-outside-reads
-use Rattle.port.proofs.state.Port.failed.Reads as failed-reads
-use Rattle.port.proofs.state.Port.fetch_seen.Reads as fetch-seen-reads
 
--- src/fetch.rt:190:42
 enum-told : tie.Need-enum-told
 enum-told c = search needs
 
--- src/fetch.rt:190:42
 fetch-outside-requires : tie.Need-fetch-outside-requires
 fetch-outside-requires c κs = search needs
 
--- src/fetch.rt:190:30
 failed-requires : tie.Need-failed-requires
 failed-requires c κs = search needs
 
--- src/fetch.rt:191:25
 enum-known-w : tie.Need-enum-known-w
 enum-known-w c = search needs
 
--- src/fetch.rt:191:31
 fetch-seen-requires : tie.Need-fetch-seen-requires
 fetch-seen-requires c κs = search needs
 
--- src/fetch.rt:186:5
 returns : tie.Need-returns
 returns c = by (fetchAfter _ _ _ _ _ _) (c .before .before .enum-told .given .1) (unfold fetchAfter in c .failed .ensures ∙ ap (fail (c .before .before .before .before .args .self)) (c .before .fetch-outside .ensures))
 
--- src/fetch.rt:186:5
 returns-2 : tie.Need-returns-2
 returns-2 c = by (fetchAfter _ _ _ _ _ _) (c .before .before .w .given .1) (unfold fetchAfter in c .fetch-seen .ensures)
 

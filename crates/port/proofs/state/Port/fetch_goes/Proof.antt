@@ -3,20 +3,13 @@ use Rattle.answers.specs.declared.Said.the-variants.{Going}
 use borrow.Author.Needs.{needs}
 use Rattle.port.proofs.state.Port.fetch_goes.Statement.{statement}
 use Rattle.port.proofs.state.Port.fetch_goes.Tie as tie
-use Rattle.port.proofs.state.Port.fetch_goes.Reads as reads
-use Rattle.port.proofs.state.Port.fetch_goes.Lts as lts
-use Rattle.port.proofs.state.Port.said.Reads as said-reads
-use Rattle.port.proofs.state.Port.with_fetcher.Reads as with-fetcher-reads
 
--- src/fetch.rt:75:9
 with-fetcher-requires : tie.Need-with-fetcher-requires
 with-fetcher-requires c κs = search needs
 
--- src/fetch.rt:75:9
 said-requires : tie.Need-said-requires
 said-requires c κs = search needs
 
--- src/fetch.rt:72:5
 returns : tie.Need-returns
 returns c = said-is Going (c .before .with-fetcher .ensures) (c .said .ensures)
 

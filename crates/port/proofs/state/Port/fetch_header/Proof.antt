@@ -7,105 +7,73 @@ use Rattle.port.proofs.SideLaws.{fetching, fault-is, text-yes, text-no}
 use borrow.Author.Needs.{needs}
 use Rattle.port.proofs.state.Port.fetch_header.Statement.{statement}
 use Rattle.port.proofs.state.Port.fetch_header.Tie as tie
-use Rattle.port.proofs.state.Port.fetch_header.Reads as reads
-use Rattle.port.proofs.state.Port.fetch_header.Lts as lts
-use Rattle.port.proofs.fetch.fetch_on.Reads as fetch-on-reads
-use Rattle.port.proofs.state.Port.failed.Reads as failed-reads
-use Rattle.port.proofs.state.Port.fetch_goes.Reads as fetch-goes-reads
-use Rattle.rules.proofs.fault_of.Reads as fault-of-reads
-use Rattle.texts.proofs.words_of.Reads as words-of-reads
-use Rattle.words.proofs.header.connection_of.Reads as connection-of-reads
-use Rattle.words.proofs.header.type_of.Reads as type-of-reads
 
--- src/fetch.rt:121:37
 type-of-requires : tie.Need-type-of-requires
 type-of-requires c κs = search needs
 
--- src/fetch.rt:121:57
 connection-of-requires : tie.Need-connection-of-requires
 connection-of-requires c κs = search needs
 
--- src/fetch.rt:121:13
 fault-of-requires : tie.Need-fault-of-requires
 fault-of-requires c κs = search needs
 
--- src/fetch.rt:123:28
 enum-known-fault : tie.Need-enum-known-fault
 enum-known-fault c = search needs
 
--- src/fetch.rt:123:34
 failed-requires : tie.Need-failed-requires
 failed-requires c κs = search needs
 
--- src/fetch.rt:125:32
 enum-told : tie.Need-enum-told
 enum-told c = search needs
 
--- src/fetch.rt:125:32
 cast-text-end : tie.Need-cast-text-end
 cast-text-end c = search needs
 
--- src/fetch.rt:125:32
 add-text-end : tie.Need-add-text-end
 add-text-end c = search needs
 
--- src/fetch.rt:125:62
 words-of-requires : tie.Need-words-of-requires
 words-of-requires c κs = search needs
 
--- src/fetch.rt:125:58
 mul-text-end : tie.Need-mul-text-end
 mul-text-end c = search needs
 
--- src/fetch.rt:125:32
 add-text-end-2 : tie.Need-add-text-end-2
 add-text-end-2 c = search needs
 
--- src/fetch.rt:127:21
 failed-requires-2 : tie.Need-failed-requires-2
 failed-requires-2 c κs = search needs
 
--- src/fetch.rt:127:21
 returns : tie.Need-returns
 returns c = unfold fetchHeader in by (headerSound _ _ _) (fault-is _ (c .before .before .before .before .before .before .before .before .type-of .ensures) (c .before .before .before .before .before .before .before .connection-of .ensures) (c .before .before .before .before .before .before .fault-of .ensures) (c .before .before .before .before .enum-told .given .1)) (no _ _ (text-no (c .before .before .before .before .before .before .before .before .before .args .c .envelope + 4) (c .before .before .words-of .ensures) _ (c .before .if1 .taken)) (c .failed2 .ensures))
 
--- src/fetch.rt:129:28
 cast-used : tie.Need-cast-used
 cast-used c = search needs
 
--- src/fetch.rt:129:54
 cast-used-2 : tie.Need-cast-used-2
 cast-used-2 c = search needs
 
--- src/fetch.rt:129:28
 add-used : tie.Need-add-used
 add-used c = search needs
 
--- src/fetch.rt:130:27
 cast-if2 : tie.Need-cast-if2
 cast-if2 c = search needs
 
--- src/fetch.rt:131:37
 fetch-on-requires : tie.Need-fetch-on-requires
 fetch-on-requires c κs = search needs
 
--- src/fetch.rt:131:21
 fetch-goes-requires : tie.Need-fetch-goes-requires
 fetch-goes-requires c κs = search needs
 
--- src/fetch.rt:133:21
 failed-requires-3 : tie.Need-failed-requires-3
 failed-requires-3 c κs = search needs
 
--- src/fetch.rt:118:5
 returns-2 : tie.Need-returns-2
 returns-2 c = unfold fetchHeader in by (headerSound _ _ _) (fault-is _ (c .before .before .before .before .before .before .type-of .ensures) (c .before .before .before .before .before .connection-of .ensures) (c .before .before .before .before .fault-of .ensures) (c .before .before .fault .given .1)) (c .failed .ensures)
 
--- src/fetch.rt:118:5
 returns-3 : tie.Need-returns-3
 returns-3 c = unfold fetchHeader in by (headerSound _ _ _) (fault-is _ (c .before .before .before .before .before .before .before .before .before .before .before .before .before .type-of .ensures) (c .before .before .before .before .before .before .before .before .before .before .before .before .connection-of .ensures) (c .before .before .before .before .before .before .before .before .before .before .before .fault-of .ensures) (c .before .before .before .before .before .before .before .before .before .enum-told .given .1)) (yes _ _ (text-yes (c .before .before .before .before .before .before .before .before .before .before .before .before .before .before .args .c .envelope + 4) (c .before .before .before .before .before .before .before .words-of .ensures) _ (c .before .before .before .before .before .before .if1 .left)) (yes _ _ (lt-ltb _ _ (c .before .before .if2 .taken)) (c .fetch-goes .ensures ∙ ap (fetching (c .before .before .before .before .before .before .before .before .before .before .before .before .before .before .args .self)) (c .before .fetch-on .ensures))))
 
--- src/fetch.rt:118:5
 returns-4 : tie.Need-returns-4
 returns-4 c = unfold fetchHeader in by (headerSound _ _ _) (fault-is _ (c .before .before .before .before .before .before .before .before .before .before .before .before .type-of .ensures) (c .before .before .before .before .before .before .before .before .before .before .before .connection-of .ensures) (c .before .before .before .before .before .before .before .before .before .before .fault-of .ensures) (c .before .before .before .before .before .before .before .before .enum-told .given .1)) (yes _ _ (text-yes (c .before .before .before .before .before .before .before .before .before .before .before .before .before .args .c .envelope + 4) (c .before .before .before .before .before .before .words-of .ensures) _ (c .before .before .before .before .before .if1 .left)) (no _ _ (le-ltb _ _ (c .before .if2 .left)) (c .failed3 .ensures)))
 

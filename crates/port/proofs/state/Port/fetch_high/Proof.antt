@@ -8,34 +8,22 @@ use Rattle.port.proofs.SideLaws.{fetching}
 use borrow.Author.Needs.{needs}
 use Rattle.port.proofs.state.Port.fetch_high.Statement.{statement}
 use Rattle.port.proofs.state.Port.fetch_high.Tie as tie
-use Rattle.port.proofs.state.Port.fetch_high.Reads as reads
-use Rattle.port.proofs.state.Port.fetch_high.Lts as lts
-use Rattle.port.proofs.state.Cursor.with_high.Reads as with-high-reads
-use Rattle.port.proofs.state.Port.fetch_goes.Reads as fetch-goes-reads
-use Rattle.port.proofs.state.Port.fetch_refused.Reads as fetch-refused-reads
-use Rattle.words.proofs.descriptor.port_owns.Reads as port-owns-reads
 
--- src/fetch.rt:98:12
 port-owns-requires : tie.Need-port-owns-requires
 port-owns-requires c κs = search needs
 
--- src/fetch.rt:99:59
 with-high-requires : tie.Need-with-high-requires
 with-high-requires c κs = search needs
 
--- src/fetch.rt:99:13
 fetch-goes-requires : tie.Need-fetch-goes-requires
 fetch-goes-requires c κs = search needs
 
--- src/fetch.rt:101:13
 fetch-refused-requires : tie.Need-fetch-refused-requires
 fetch-refused-requires c κs = search needs
 
--- src/fetch.rt:95:5
 returns : tie.Need-returns
 returns c = unfold fetchHigh in yes _ _ (sym (c .before .before .before .port-owns .ensures) ∙ c .before .before .if1 .taken) (c .fetch-goes .ensures ∙ ap (λ (d : Cursor). fetching (c .before .before .before .before .args .self) (Fetching Low d)) (c .before .with-high .ensures))
 
--- src/fetch.rt:95:5
 returns-2 : tie.Need-returns-2
 returns-2 c = unfold fetchHigh in no _ _ (sym (c .before .before .port-owns .ensures) ∙ c .before .if1 .left) (c .fetch-refused .ensures)
 

@@ -10,46 +10,31 @@ use Rattle.port.proofs.SideLaws.{fetching, envelope-low, envelope-past,
 use borrow.Author.Needs.{needs}
 use Rattle.port.proofs.state.Port.fetch_low.Statement.{statement}
 use Rattle.port.proofs.state.Port.fetch_low.Tie as tie
-use Rattle.port.proofs.state.Port.fetch_low.Reads as reads
-use Rattle.port.proofs.state.Port.fetch_low.Lts as lts
-use Rattle.port.proofs.state.Cursor.with_envelope.Reads as with-envelope-reads
-use Rattle.port.proofs.state.Port.failed.Reads as failed-reads
-use Rattle.port.proofs.state.Port.fetch_goes.Reads as fetch-goes-reads
-use Rattle.words.proofs.descriptor.address.Reads as address-reads
 
--- src/fetch.rt:108:13
 address-requires : tie.Need-address-requires
 address-requires c κs = search needs
 
--- src/fetch.rt:110:13
 failed-requires : tie.Need-failed-requires
 failed-requires c κs = search needs
 
--- src/fetch.rt:110:13
 returns : tie.Need-returns
 returns c = unfold fetchLow in no _ _ (envelope-low _ (c .before .before .address .ensures) _ (c .before .if1 .taken)) (c .failed .ensures)
 
--- src/fetch.rt:112:18
 cast-if2 : tie.Need-cast-if2
 cast-if2 c = search needs
 
--- src/fetch.rt:113:13
 failed-requires-2 : tie.Need-failed-requires-2
 failed-requires-2 c κs = search needs
 
--- src/fetch.rt:113:13
 returns-2 : tie.Need-returns-2
 returns-2 c = unfold fetchLow in no _ _ (envelope-past _ (c .before .before .before .address .ensures) (c .before .before .if1 .left) _ _ (c .before .before .before .address .ensures) (c .before .if2 .taken)) (c .failed2 .ensures)
 
--- src/fetch.rt:115:58
 with-envelope-requires : tie.Need-with-envelope-requires
 with-envelope-requires c κs = search needs
 
--- src/fetch.rt:115:9
 fetch-goes-requires : tie.Need-fetch-goes-requires
 fetch-goes-requires c κs = search needs
 
--- src/fetch.rt:105:5
 returns-3 : tie.Need-returns-3
 returns-3 c = unfold fetchLow in yes _ _ (envelope-in _ (c .before .before .before .before .address .ensures) (c .before .before .before .if1 .left) _ _ (c .before .before .before .before .address .ensures) (c .before .before .if2 .left)) (c .fetch-goes .ensures ∙ ap (λ (d : Cursor). fetching (c .before .before .before .before .before .args .self) (Fetching Length d)) (c .before .with-envelope .ensures ∙ ap (λ (t : ℕ). withEnvelope (c .before .before .before .before .before .args .c) (t - 4)) (c .before .before .before .before .address .ensures)))
 

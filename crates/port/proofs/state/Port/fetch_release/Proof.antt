@@ -9,39 +9,25 @@ use Rattle.port.proofs.SideLaws.{fetching}
 use borrow.Author.Needs.{needs}
 use Rattle.port.proofs.state.Port.fetch_release.Statement.{statement}
 use Rattle.port.proofs.state.Port.fetch_release.Tie as tie
-use Rattle.port.proofs.state.Port.fetch_release.Reads as reads
-use Rattle.port.proofs.state.Port.fetch_release.Lts as lts
-use Rattle.port.proofs.state.Port.fetch_closed.Reads as fetch-closed-reads
-use Rattle.port.proofs.state.Port.fetch_goes.Reads as fetch-goes-reads
-use Rattle.port.proofs.state.Port.fetched_one.Reads as fetched-one-reads
-use Rattle.port.proofs.tail.tail_start.Reads as tail-start-reads
-use Rattle.words.proofs.descriptor.has_flag.Reads as has-flag-reads
 
--- src/fetch.rt:164:13
 fetched-one-requires : tie.Need-fetched-one-requires
 fetched-one-requires c κs = search needs
 
--- src/fetch.rt:165:12
 has-flag-requires : tie.Need-has-flag-requires
 has-flag-requires c κs = search needs
 
--- src/fetch.rt:166:48
 tail-start-requires : tie.Need-tail-start-requires
 tail-start-requires c κs = search needs
 
--- src/fetch.rt:166:13
 fetch-goes-requires : tie.Need-fetch-goes-requires
 fetch-goes-requires c κs = search needs
 
--- src/fetch.rt:168:13
 fetch-closed-requires : tie.Need-fetch-closed-requires
 fetch-closed-requires c κs = search needs
 
--- src/fetch.rt:161:5
 returns : tie.Need-returns
 returns c = unfold fetchRelease in yes _ _ (sym (c .before .before .before .has-flag .ensures) ∙ c .before .before .if1 .taken) (c .fetch-goes .ensures ∙ ap₂ (λ (q : Port) (t : TailStage). fetching q (FetchTail t (c .before .before .before .before .before .args .c))) (c .before .before .before .before .fetched-one .ensures) (c .before .tail-start .ensures))
 
--- src/fetch.rt:161:5
 returns-2 : tie.Need-returns-2
 returns-2 c = unfold fetchRelease in no _ _ (sym (c .before .before .has-flag .ensures) ∙ c .before .if1 .left) (c .fetch-closed .ensures ∙ ap (λ (q : Port). fetchClosed q (c .before .before .before .before .args .c) false) (c .before .before .before .fetched-one .ensures))
 

@@ -8,89 +8,61 @@ use Rattle.port.proofs.SideLaws.{fetching}
 use borrow.Author.Needs.{needs}
 use Rattle.port.proofs.state.Port.fetch_seen.Statement.{statement}
 use Rattle.port.proofs.state.Port.fetch_seen.Tie as tie
-use Rattle.port.proofs.state.Port.fetch_seen.Reads as reads
-use Rattle.port.proofs.state.Port.fetch_seen.Lts as lts
-use Rattle.port.proofs.state.Cursor.with_size.Reads as with-size-reads
-use Rattle.port.proofs.state.Port.fetch_goes.Reads as fetch-goes-reads
-use Rattle.port.proofs.state.Port.fetch_header.Reads as fetch-header-reads
-use Rattle.port.proofs.state.Port.fetch_high.Reads as fetch-high-reads
-use Rattle.port.proofs.state.Port.fetch_low.Reads as fetch-low-reads
-use Rattle.port.proofs.state.Port.fetch_release.Reads as fetch-release-reads
-use Rattle.port.proofs.state.Port.fetch_text.Reads as fetch-text-reads
 
--- src/fetch.rt:177:28
 enum-told : tie.Need-enum-told
 enum-told c = search needs
 
--- src/fetch.rt:177:28
 fetch-high-requires : tie.Need-fetch-high-requires
 fetch-high-requires c κs = search needs
 
--- src/fetch.rt:178:27
 enum-told-2 : tie.Need-enum-told-2
 enum-told-2 c = search needs
 
--- src/fetch.rt:178:27
 fetch-low-requires : tie.Need-fetch-low-requires
 fetch-low-requires c κs = search needs
 
--- src/fetch.rt:179:64
 enum-told-3 : tie.Need-enum-told-3
 enum-told-3 c = search needs
 
--- src/fetch.rt:179:79
 with-size-requires : tie.Need-with-size-requires
 with-size-requires c κs = search needs
 
--- src/fetch.rt:179:30
 fetch-goes-requires : tie.Need-fetch-goes-requires
 fetch-goes-requires c κs = search needs
 
--- src/fetch.rt:180:30
 enum-told-4 : tie.Need-enum-told-4
 enum-told-4 c = search needs
 
--- src/fetch.rt:180:30
 fetch-header-requires : tie.Need-fetch-header-requires
 fetch-header-requires c κs = search needs
 
--- src/fetch.rt:181:28
 enum-told-5 : tie.Need-enum-told-5
 enum-told-5 c = search needs
 
--- src/fetch.rt:181:28
 fetch-text-requires : tie.Need-fetch-text-requires
 fetch-text-requires c κs = search needs
 
--- src/fetch.rt:182:31
 enum-told-6 : tie.Need-enum-told-6
 enum-told-6 c = search needs
 
--- src/fetch.rt:182:31
 fetch-release-requires : tie.Need-fetch-release-requires
 fetch-release-requires c κs = search needs
 
--- src/fetch.rt:173:5
 returns : tie.Need-returns
 returns c = by₃ (fetchSeen _ _ _ _) _ _ (c .before .enum-told .given .1) (c .fetch-high .ensures)
 
--- src/fetch.rt:173:5
 returns-2 : tie.Need-returns-2
 returns-2 c = by₃ (fetchSeen _ _ _ _) _ _ (c .before .enum-told2 .given .1) (c .fetch-low .ensures)
 
--- src/fetch.rt:173:5
 returns-3 : tie.Need-returns-3
 returns-3 c = by₃ (fetchSeen _ _ _ _) _ _ (c .before .before .enum-told3 .given .1) (c .fetch-goes .ensures ∙ ap (λ (d : Cursor). fetching (c .before .before .before .before .args .self) (Fetching Header d)) (c .before .with-size .ensures))
 
--- src/fetch.rt:173:5
 returns-4 : tie.Need-returns-4
 returns-4 c = by₃ (fetchSeen _ _ _ _) _ _ (c .before .enum-told4 .given .1) (c .fetch-header .ensures)
 
--- src/fetch.rt:173:5
 returns-5 : tie.Need-returns-5
 returns-5 c = by₃ (fetchSeen _ _ _ _) _ _ (c .before .enum-told5 .given .1) (c .fetch-text .ensures)
 
--- src/fetch.rt:173:5
 returns-6 : tie.Need-returns-6
 returns-6 c = by₃ (fetchSeen _ _ _ _) _ _ (c .before .enum-told6 .given .1) (c .fetch-release .ensures)
 

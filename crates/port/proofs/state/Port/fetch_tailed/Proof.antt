@@ -3,45 +3,31 @@ use Rattle.port.proofs.StateLaws.{by}
 use borrow.Author.Needs.{needs}
 use Rattle.port.proofs.state.Port.fetch_tailed.Statement.{statement}
 use Rattle.port.proofs.state.Port.fetch_tailed.Tie as tie
-use Rattle.port.proofs.state.Port.fetch_tailed.Reads as reads
-use Rattle.port.proofs.state.Port.fetch_tailed.Lts as lts
-use Rattle.port.proofs.state.Port.failed.Reads as failed-reads
-use Rattle.port.proofs.state.Port.fetch_closed.Reads as fetch-closed-reads
-use Rattle.port.proofs.state.Port.fetch_goes.Reads as fetch-goes-reads
 
--- src/fetch.rt:199:67
 enum-told : tie.Need-enum-told
 enum-told c = search needs
 
--- src/fetch.rt:199:32
 fetch-goes-requires : tie.Need-fetch-goes-requires
 fetch-goes-requires c κs = search needs
 
--- src/fetch.rt:200:29
 enum-known-x : tie.Need-enum-known-x
 enum-known-x c = search needs
 
--- src/fetch.rt:200:35
 fetch-closed-requires : tie.Need-fetch-closed-requires
 fetch-closed-requires c κs = search needs
 
--- src/fetch.rt:201:29
 enum-known-x-2 : tie.Need-enum-known-x-2
 enum-known-x-2 c = search needs
 
--- src/fetch.rt:201:35
 failed-requires : tie.Need-failed-requires
 failed-requires c κs = search needs
 
--- src/fetch.rt:195:5
 returns : tie.Need-returns
 returns c = by (fetchTailed _ _) (c .before .enum-told .given .1) (unfold fetchTailed in c .fetch-goes .ensures)
 
--- src/fetch.rt:195:5
 returns-2 : tie.Need-returns-2
 returns-2 c = by (fetchTailed _ _) (c .before .before .x .given .1) (unfold fetchTailed in c .fetch-closed .ensures)
 
--- src/fetch.rt:195:5
 returns-3 : tie.Need-returns-3
 returns-3 c = by (fetchTailed _ _) (c .before .before .x2 .given .1) (unfold fetchTailed in c .failed .ensures)
 

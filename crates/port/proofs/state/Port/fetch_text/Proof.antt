@@ -8,33 +8,22 @@ use Rattle.port.proofs.SideLaws.{fetching}
 use borrow.Author.Needs.{needs}
 use Rattle.port.proofs.state.Port.fetch_text.Statement.{statement}
 use Rattle.port.proofs.state.Port.fetch_text.Tie as tie
-use Rattle.port.proofs.state.Port.fetch_text.Reads as reads
-use Rattle.port.proofs.state.Port.fetch_text.Lts as lts
-use Rattle.port.proofs.fetch.fetch_on.Reads as fetch-on-reads
-use Rattle.port.proofs.state.Port.fetch_goes.Reads as fetch-goes-reads
-use Rattle.texts.proofs.put_word.Reads as put-word-reads
 
--- src/fetch.rt:142:9
 put-word-requires : tie.Need-put-word-requires
 put-word-requires c κs = search needs
 
--- src/fetch.rt:143:37
 cast-fetch-on : tie.Need-cast-fetch-on
 cast-fetch-on c = search needs
 
--- src/fetch.rt:143:37
 add-fetch-on : tie.Need-add-fetch-on
 add-fetch-on c = search needs
 
--- src/fetch.rt:143:25
 fetch-on-requires : tie.Need-fetch-on-requires
 fetch-on-requires c κs = search needs
 
--- src/fetch.rt:143:9
 fetch-goes-requires : tie.Need-fetch-goes-requires
 fetch-goes-requires c κs = search needs
 
--- src/fetch.rt:139:5
 returns : tie.Need-returns
 returns c = unfold fetchText in c .fetch-goes .ensures ∙ ap₂ (λ (x : List ℕ) (y : Fetcher). fetching (withIncoming (c .before .before .before .before .before .args .t1) x) y) (c .before .before .before .put-word .ensures) (c .before .fetch-on .ensures)
 

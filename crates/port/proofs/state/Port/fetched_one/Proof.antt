@@ -6,24 +6,16 @@ use Rattle.port.proofs.SideLaws.{counts-is}
 use borrow.Author.Needs.{needs}
 use Rattle.port.proofs.state.Port.fetched_one.Statement.{statement}
 use Rattle.port.proofs.state.Port.fetched_one.Tie as tie
-use Rattle.port.proofs.state.Port.fetched_one.Reads as reads
-use Rattle.port.proofs.state.Port.fetched_one.Lts as lts
-use Rattle.area.proofs.Area.next.Reads as next-reads
-use Rattle.port.proofs.state.Port.with_counts.Reads as with-counts-reads
 
--- src/fetch.rt:151:36
 add-more : tie.Need-add-more
 add-more c = search needs
 
--- src/fetch.rt:153:20
 next-requires : tie.Need-next-requires
 next-requires c κs = search needs
 
--- src/fetch.rt:158:9
 with-counts-requires : tie.Need-with-counts-requires
 with-counts-requires c κs = search needs
 
--- src/fetch.rt:147:5
 returns : tie.Need-returns
 returns c = unfold fetched in c .with-counts .ensures ∙ counts-is (c .before .before .before .args .self) (c .before .next .ensures) refl refl (⊎-elim (λ w. omega arith) (λ w. omega arith) (c .before .before .if1 .came))
 

@@ -9,47 +9,31 @@ use Rattle.port.proofs.ShakeLaws.{wrap-yes, wrap-hidden, wrap-no}
 use borrow.Author.Needs.{needs}
 use Rattle.port.proofs.state.Port.hears_first.Statement.{statement}
 use Rattle.port.proofs.state.Port.hears_first.Tie as tie
-use Rattle.port.proofs.state.Port.hears_first.Reads as reads
-use Rattle.port.proofs.state.Port.hears_first.Lts as lts
-use Rattle.area.proofs.interrupts_steps.Reads as interrupts-steps-reads
-use Rattle.port.proofs.state.Port.moves.Reads as moves-reads
-use Rattle.port.proofs.state.Port.said.Reads as said-reads
-use Rattle.words.proofs.hostword.is_first.Reads as is-first-reads
-use Rattle.words.proofs.hostword.wants_wrap.Reads as wants-wrap-reads
 
--- src/shake.rt:96:13
 is-first-requires : tie.Need-is-first-requires
 is-first-requires c κs = search needs
 
--- src/shake.rt:97:13
 said-requires : tie.Need-said-requires
 said-requires c κs = search needs
 
--- src/shake.rt:97:13
 returns : tie.Need-returns
 returns c = unfold firstHeard in no _ _ (sym (c .before .before .is-first .ensures) ∙ not-true _ (c .before .if1 .taken)) (said-is Done refl (c .said .ensures))
 
--- src/shake.rt:99:12
 wants-wrap-requires : tie.Need-wants-wrap-requires
 wants-wrap-requires c κs = search needs
 
--- src/shake.rt:101:17
 moves-requires : tie.Need-moves-requires
 moves-requires c κs = search needs
 
--- src/shake.rt:101:17
 returns-2 : tie.Need-returns-2
 returns-2 c = unfold firstHeard in yes _ _ (sym (c .before .before .before .before .before .is-first .ensures) ∙ not-false _ (c .before .before .before .before .if1 .left)) (yes _ _ (wrap-yes _ (c .before .before .before .wants-wrap .ensures) (c .before .before .if2 .taken) (c .before .if3 .taken)) (ap answered (c .moves .ensures)))
 
--- src/shake.rt:104:37
 interrupts-steps-requires : tie.Need-interrupts-steps-requires
 interrupts-steps-requires c κs = search needs
 
--- src/shake.rt:104:9
 moves-requires-2 : tie.Need-moves-requires-2
 moves-requires-2 c κs = search needs
 
--- src/shake.rt:93:5
 returns-3 : tie.Need-returns-3
 returns-3 c = unfold firstHeard in yes _ _ (sym (c .before .before .before .before .before .is-first .ensures) ∙ not-false _ (c .before .before .before .before .if1 .left)) (no _ _ (⊎-elim (λ w. wrap-hidden _ (c .before .before .before .wants-wrap .ensures) (w .0 .taken) (w .1 .left)) (λ w. wrap-no _ (c .before .before .before .wants-wrap .ensures) (w .left)) (c .before .before .if2 .came)) (ap answered (c .moves2 .ensures) ∙ ap (moved (c .before .before .before .before .before .before .args .self) _) (c .before .interrupts-steps .ensures)))
 

@@ -4,20 +4,13 @@ use Rattle.port.proofs.StateLaws.{said-is}
 use borrow.Author.Needs.{needs}
 use Rattle.port.proofs.state.Port.limited.Statement.{statement}
 use Rattle.port.proofs.state.Port.limited.Tie as tie
-use Rattle.port.proofs.state.Port.limited.Reads as reads
-use Rattle.port.proofs.state.Port.limited.Lts as lts
-use Rattle.port.proofs.state.Port.new.Reads as new-reads
-use Rattle.port.proofs.state.Port.said.Reads as said-reads
 
--- src/shake.rt:40:9
 new-requires : tie.Need-new-requires
 new-requires c κs = search needs
 
--- src/shake.rt:40:9
 said-requires : tie.Need-said-requires
 said-requires c κs = search needs
 
--- src/shake.rt:36:5
 returns : tie.Need-returns
 returns c = said-is (Refused BadSetting) (c .before .new .ensures) (c .said .ensures)
 

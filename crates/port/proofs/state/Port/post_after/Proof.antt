@@ -5,37 +5,25 @@ use Rattle.port.proofs.StateLaws.{by}
 use borrow.Author.Needs.{needs}
 use Rattle.port.proofs.state.Port.post_after.Statement.{statement}
 use Rattle.port.proofs.state.Port.post_after.Tie as tie
-use Rattle.port.proofs.state.Port.post_after.Reads as reads
-use Rattle.port.proofs.state.Port.post_after.Lts as lts
-use Rattle.port.proofs.post.post_outside.Reads as post-outside-reads
-use Rattle.port.proofs.state.Port.failed.Reads as failed-reads
-use Rattle.port.proofs.state.Port.post_seen.Reads as post-seen-reads
 
--- src/post.rt:184:42
 enum-told : tie.Need-enum-told
 enum-told c = search needs
 
--- src/post.rt:184:42
 post-outside-requires : tie.Need-post-outside-requires
 post-outside-requires c κs = search needs
 
--- src/post.rt:184:30
 failed-requires : tie.Need-failed-requires
 failed-requires c κs = search needs
 
--- src/post.rt:185:25
 enum-known-w : tie.Need-enum-known-w
 enum-known-w c = search needs
 
--- src/post.rt:185:31
 post-seen-requires : tie.Need-post-seen-requires
 post-seen-requires c κs = search needs
 
--- src/post.rt:180:5
 returns : tie.Need-returns
 returns c = by (postAfter _ _ _ _ _ _) (c .before .before .enum-told .given .1) (unfold postAfter in c .failed .ensures ∙ ap (fail (c .before .before .before .before .args .self)) (c .before .post-outside .ensures))
 
--- src/post.rt:180:5
 returns-2 : tie.Need-returns-2
 returns-2 c = by (postAfter _ _ _ _ _ _) (c .before .before .w .given .1) (unfold postAfter in c .post-seen .ensures)
 

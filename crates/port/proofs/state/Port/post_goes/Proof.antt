@@ -3,20 +3,13 @@ use Rattle.answers.specs.declared.Said.the-variants.{Going}
 use borrow.Author.Needs.{needs}
 use Rattle.port.proofs.state.Port.post_goes.Statement.{statement}
 use Rattle.port.proofs.state.Port.post_goes.Tie as tie
-use Rattle.port.proofs.state.Port.post_goes.Reads as reads
-use Rattle.port.proofs.state.Port.post_goes.Lts as lts
-use Rattle.port.proofs.state.Port.said.Reads as said-reads
-use Rattle.port.proofs.state.Port.with_poster.Reads as with-poster-reads
 
--- src/post.rt:88:9
 with-poster-requires : tie.Need-with-poster-requires
 with-poster-requires c κs = search needs
 
--- src/post.rt:88:9
 said-requires : tie.Need-said-requires
 said-requires c κs = search needs
 
--- src/post.rt:85:5
 returns : tie.Need-returns
 returns c = said-is Going (c .before .with-poster .ensures) (c .said .ensures)
 

@@ -10,59 +10,40 @@ use Rattle.port.proofs.SideLaws.{posting, envelope-low, envelope-past, 
 use borrow.Author.Needs.{needs}
 use Rattle.port.proofs.state.Port.post_low.Statement.{statement}
 use Rattle.port.proofs.state.Port.post_low.Tie as tie
-use Rattle.port.proofs.state.Port.post_low.Reads as reads
-use Rattle.port.proofs.state.Port.post_low.Lts as lts
-use Rattle.port.proofs.state.Cursor.with_envelope.Reads as with-envelope-reads
-use Rattle.port.proofs.state.Port.failed.Reads as failed-reads
-use Rattle.port.proofs.state.Port.post_goes.Reads as post-goes-reads
-use Rattle.texts.proofs.words_of.Reads as words-of-reads
-use Rattle.words.proofs.descriptor.address.Reads as address-reads
 
--- src/post.rt:120:13
 address-requires : tie.Need-address-requires
 address-requires c κs = search needs
 
--- src/post.rt:122:13
 failed-requires : tie.Need-failed-requires
 failed-requires c κs = search needs
 
--- src/post.rt:122:13
 returns : tie.Need-returns
 returns c = unfold postLow in no _ _ (envelope-low _ (c .before .before .address .ensures) _ (c .before .if1 .taken)) (c .failed .ensures)
 
--- src/post.rt:124:18
 cast-if2 : tie.Need-cast-if2
 cast-if2 c = search needs
 
--- src/post.rt:124:38
 words-of-requires : tie.Need-words-of-requires
 words-of-requires c κs = search needs
 
--- src/post.rt:124:34
 mul-if2 : tie.Need-mul-if2
 mul-if2 c = search needs
 
--- src/post.rt:124:18
 add-if2 : tie.Need-add-if2
 add-if2 c = search needs
 
--- src/post.rt:125:13
 failed-requires-2 : tie.Need-failed-requires-2
 failed-requires-2 c κs = search needs
 
--- src/post.rt:125:13
 returns-2 : tie.Need-returns-2
 returns-2 c = unfold postLow in no _ _ (envelope-past _ (c .before .before .before .before .address .ensures) (c .before .before .before .if1 .left) _ _ (ap₂ (λ (t w : ℕ). t + 2 * w) (c .before .before .before .before .address .ensures) (c .before .before .words-of .ensures)) (c .before .if2 .taken)) (c .failed2 .ensures)
 
--- src/post.rt:127:55
 with-envelope-requires : tie.Need-with-envelope-requires
 with-envelope-requires c κs = search needs
 
--- src/post.rt:127:9
 post-goes-requires : tie.Need-post-goes-requires
 post-goes-requires c κs = search needs
 
--- src/post.rt:117:5
 returns-3 : tie.Need-returns-3
 returns-3 c = unfold postLow in yes _ _ (envelope-in _ (c .before .before .before .before .before .address .ensures) (c .before .before .before .before .if1 .left) _ _ (ap₂ (λ (t w : ℕ). t + 2 * w) (c .before .before .before .before .before .address .ensures) (c .before .before .before .words-of .ensures)) (c .before .before .if2 .left)) (c .post-goes .ensures ∙ ap (λ (d : Cursor). posting (c .before .before .before .before .before .before .args .self) (Posting Length d)) (c .before .with-envelope .ensures ∙ ap (λ (t : ℕ). withEnvelope (c .before .before .before .before .before .before .args .c) (t - 4)) (c .before .before .before .before .before .address .ensures)))
 

@@ -9,39 +9,25 @@ use Rattle.port.proofs.SideLaws.{posting}
 use borrow.Author.Needs.{needs}
 use Rattle.port.proofs.state.Port.post_release.Statement.{statement}
 use Rattle.port.proofs.state.Port.post_release.Tie as tie
-use Rattle.port.proofs.state.Port.post_release.Reads as reads
-use Rattle.port.proofs.state.Port.post_release.Lts as lts
-use Rattle.port.proofs.state.Port.post_closed.Reads as post-closed-reads
-use Rattle.port.proofs.state.Port.post_goes.Reads as post-goes-reads
-use Rattle.port.proofs.state.Port.posted_one.Reads as posted-one-reads
-use Rattle.port.proofs.tail.tail_start.Reads as tail-start-reads
-use Rattle.words.proofs.descriptor.has_flag.Reads as has-flag-reads
 
--- src/post.rt:158:13
 posted-one-requires : tie.Need-posted-one-requires
 posted-one-requires c κs = search needs
 
--- src/post.rt:159:12
 has-flag-requires : tie.Need-has-flag-requires
 has-flag-requires c κs = search needs
 
--- src/post.rt:160:45
 tail-start-requires : tie.Need-tail-start-requires
 tail-start-requires c κs = search needs
 
--- src/post.rt:160:13
 post-goes-requires : tie.Need-post-goes-requires
 post-goes-requires c κs = search needs
 
--- src/post.rt:162:13
 post-closed-requires : tie.Need-post-closed-requires
 post-closed-requires c κs = search needs
 
--- src/post.rt:155:5
 returns : tie.Need-returns
 returns c = unfold postRelease in yes _ _ (sym (c .before .before .before .has-flag .ensures) ∙ c .before .before .if1 .taken) (c .post-goes .ensures ∙ ap₂ (λ (q : Port) (t : TailStage). posting q (PostTail t (c .before .before .before .before .before .args .c))) (c .before .before .before .before .posted-one .ensures) (c .before .tail-start .ensures))
 
--- src/post.rt:155:5
 returns-2 : tie.Need-returns-2
 returns-2 c = unfold postRelease in no _ _ (sym (c .before .before .has-flag .ensures) ∙ c .before .if1 .left) (c .post-closed .ensures ∙ ap (λ (q : Port). postClosed q false) (c .before .before .before .posted-one .ensures))
 

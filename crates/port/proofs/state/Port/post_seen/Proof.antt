@@ -5,99 +5,70 @@ use Rattle.port.proofs.SideLaws.{posting}
 use borrow.Author.Needs.{needs}
 use Rattle.port.proofs.state.Port.post_seen.Statement.{statement}
 use Rattle.port.proofs.state.Port.post_seen.Tie as tie
-use Rattle.port.proofs.state.Port.post_seen.Reads as reads
-use Rattle.port.proofs.state.Port.post_seen.Lts as lts
-use Rattle.port.proofs.post.post_on.Reads as post-on-reads
-use Rattle.port.proofs.state.Port.post_goes.Reads as post-goes-reads
-use Rattle.port.proofs.state.Port.post_high.Reads as post-high-reads
-use Rattle.port.proofs.state.Port.post_low.Reads as post-low-reads
-use Rattle.port.proofs.state.Port.post_release.Reads as post-release-reads
 
--- src/post.rt:171:28
 enum-told : tie.Need-enum-told
 enum-told c = search needs
 
--- src/post.rt:171:28
 post-high-requires : tie.Need-post-high-requires
 post-high-requires c κs = search needs
 
--- src/post.rt:172:27
 enum-told-2 : tie.Need-enum-told-2
 enum-told-2 c = search needs
 
--- src/post.rt:172:27
 post-low-requires : tie.Need-post-low-requires
 post-low-requires c κs = search needs
 
--- src/post.rt:173:61
 enum-told-3 : tie.Need-enum-told-3
 enum-told-3 c = search needs
 
--- src/post.rt:173:30
 post-goes-requires : tie.Need-post-goes-requires
 post-goes-requires c κs = search needs
 
--- src/post.rt:174:45
 enum-told-4 : tie.Need-enum-told-4
 enum-told-4 c = search needs
 
--- src/post.rt:174:45
 post-on-requires : tie.Need-post-on-requires
 post-on-requires c κs = search needs
 
--- src/post.rt:174:30
 post-goes-requires-2 : tie.Need-post-goes-requires-2
 post-goes-requires-2 c κs = search needs
 
--- src/post.rt:175:54
 enum-told-5 : tie.Need-enum-told-5
 enum-told-5 c = search needs
 
--- src/post.rt:175:54
 cast-post-on : tie.Need-cast-post-on
 cast-post-on c = search needs
 
--- src/post.rt:175:54
 add-post-on : tie.Need-add-post-on
 add-post-on c = search needs
 
--- src/post.rt:175:43
 post-on-requires-2 : tie.Need-post-on-requires-2
 post-on-requires-2 c κs = search needs
 
--- src/post.rt:175:28
 post-goes-requires-3 : tie.Need-post-goes-requires-3
 post-goes-requires-3 c κs = search needs
 
--- src/post.rt:176:31
 enum-told-6 : tie.Need-enum-told-6
 enum-told-6 c = search needs
 
--- src/post.rt:176:31
 post-release-requires : tie.Need-post-release-requires
 post-release-requires c κs = search needs
 
--- src/post.rt:167:5
 returns : tie.Need-returns
 returns c = by₃ (postSeen _ _ _ _) _ _ (c .before .enum-told .given .1) (c .post-high .ensures)
 
--- src/post.rt:167:5
 returns-2 : tie.Need-returns-2
 returns-2 c = by₃ (postSeen _ _ _ _) _ _ (c .before .enum-told2 .given .1) (c .post-low .ensures)
 
--- src/post.rt:167:5
 returns-3 : tie.Need-returns-3
 returns-3 c = by₃ (postSeen _ _ _ _) _ _ (c .before .enum-told3 .given .1) (c .post-goes .ensures)
 
--- src/post.rt:167:5
 returns-4 : tie.Need-returns-4
 returns-4 c = by₃ (postSeen _ _ _ _) _ _ (c .before .before .enum-told4 .given .1) (c .post-goes2 .ensures ∙ ap (posting (c .before .before .before .before .args .self)) (c .before .post-on .ensures))
 
--- src/post.rt:167:5
 returns-5 : tie.Need-returns-5
 returns-5 c = by₃ (postSeen _ _ _ _) _ _ (c .before .before .before .enum-told5 .given .1) (c .post-goes3 .ensures ∙ ap (posting (c .before .before .before .before .before .args .self)) (c .before .post-on2 .ensures))
 
--- src/post.rt:167:5
 returns-6 : tie.Need-returns-6
 returns-6 c = by₃ (postSeen _ _ _ _) _ _ (c .before .enum-told6 .given .1) (c .post-release .ensures)
 

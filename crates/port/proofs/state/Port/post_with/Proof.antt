@@ -13,51 +13,34 @@ use Rattle.port.proofs.SideLaws.{posting, closed-yes, closed-no, closed
 use borrow.Author.Needs.{needs}
 use Rattle.port.proofs.state.Port.post_with.Statement.{statement}
 use Rattle.port.proofs.state.Port.post_with.Tie as tie
-use Rattle.port.proofs.state.Port.post_with.Reads as reads
-use Rattle.port.proofs.state.Port.post_with.Lts as lts
-use Rattle.port.proofs.state.Cursor.start.Reads as start-reads
-use Rattle.port.proofs.state.Port.post_goes.Reads as post-goes-reads
-use Rattle.port.proofs.state.Port.said.Reads as said-reads
-use Rattle.port.proofs.state.Port.with_outgoing.Reads as with-outgoing-reads
-use Rattle.texts.proofs.padded_of.Reads as padded-of-reads
 
--- src/post.rt:204:13
 said-requires : tie.Need-said-requires
 said-requires c κs = search needs
 
--- src/post.rt:204:13
 returns : tie.Need-returns
 returns c = no _ _ (lt-leb _ _ (c .before .if1 .taken)) (said-is (Refused TooLong) refl (c .said .ensures))
 
--- src/post.rt:208:17
 said-requires-2 : tie.Need-said-requires-2
 said-requires-2 c κs = search needs
 
--- src/post.rt:208:17
 returns-2 : tie.Need-returns-2
 returns-2 c = yes _ _ (le-leb _ _ (c .before .before .before .before .if1 .left)) (yes _ _ (closed-yes _ _ (c .before .before .before .if2 .taken) (c .before .if3 .taken)) (said-is (Refused NothingOpen) refl (c .said2 .ensures)))
 
--- src/post.rt:211:49
 cast-start : tie.Need-cast-start
 cast-start c = search needs
 
--- src/post.rt:211:13
 start-requires : tie.Need-start-requires
 start-requires c κs = search needs
 
--- src/post.rt:212:39
 padded-of-requires : tie.Need-padded-of-requires
 padded-of-requires c κs = search needs
 
--- src/post.rt:212:13
 with-outgoing-requires : tie.Need-with-outgoing-requires
 with-outgoing-requires c κs = search needs
 
--- src/post.rt:213:9
 post-goes-requires : tie.Need-post-goes-requires
 post-goes-requires c κs = search needs
 
--- src/post.rt:200:5
 returns-3 : tie.Need-returns-3
 returns-3 c = yes _ _ (le-leb _ _ (c .before .before .before .before .before .if1 .left)) (no _ _ (⊎-elim (λ w. closed-no _ (c .before .before .before .before .before .before .before .args .self .counts .unanswered) (w .0 .taken) (w .2 .left)) (λ w. closed-none _ (c .before .before .before .before .before .before .before .args .self .counts .unanswered) (w .left)) (c .before .before .before .before .if2 .came)) (c .post-goes .ensures ∙ ap₂ (λ (q : Port) (d : Cursor). posting q (Posting High d)) (c .before .with-outgoing .ensures ∙ ap (withOutgoing (c .before .before .before .before .before .before .before .args .self)) (c .before .before .padded-of .ensures)) (c .before .before .before .start .ensures)))
 

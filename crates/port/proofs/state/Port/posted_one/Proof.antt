@@ -7,37 +7,25 @@ use Rattle.port.proofs.SideLaws.{counts-is}
 use borrow.Author.Needs.{needs}
 use Rattle.port.proofs.state.Port.posted_one.Statement.{statement}
 use Rattle.port.proofs.state.Port.posted_one.Tie as tie
-use Rattle.port.proofs.state.Port.posted_one.Reads as reads
-use Rattle.port.proofs.state.Port.posted_one.Lts as lts
-use Rattle.area.proofs.Area.next.Reads as next-reads
-use Rattle.port.proofs.state.Port.with_counts.Reads as with-counts-reads
-use Rattle.rules.proofs.left_of.Reads as left-of-reads
 
--- src/post.rt:134:13
 next-requires : tie.Need-next-requires
 next-requires c κs = search needs
 
--- src/post.rt:139:40
 sub-closed : tie.Need-sub-closed
 sub-closed c = search needs
 
--- src/post.rt:143:23
 left-of-requires : tie.Need-left-of-requires
 left-of-requires c κs = search needs
 
--- src/post.rt:140:13
 with-counts-requires : tie.Need-with-counts-requires
 with-counts-requires c κs = search needs
 
--- src/post.rt:140:13
 returns : tie.Need-returns
 returns c = unfold posted in c .with-counts .ensures ∙ counts-is (c .before .before .before .before .before .args .self) refl (c .before .before .before .before .next .ensures) (yes _ _ (c .before .before .before .if1 .taken) (c .before .left-of .ensures)) (yes _ _ (c .before .before .before .if1 .taken) (⊎-elim (λ w. omega arith) (λ w. omega arith) (c .before .before .if2 .came)))
 
--- src/post.rt:147:9
 with-counts-requires-2 : tie.Need-with-counts-requires-2
 with-counts-requires-2 c κs = search needs
 
--- src/post.rt:131:5
 returns-2 : tie.Need-returns-2
 returns-2 c = unfold posted in c .with-counts2 .ensures ∙ counts-is (c .before .before .before .args .self) refl (c .before .before .next .ensures) (no _ _ (c .before .if1 .left) refl) (no _ _ (c .before .if1 .left) refl)
 

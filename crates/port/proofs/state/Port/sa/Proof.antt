@@ -5,92 +5,64 @@ use Rattle.port.proofs.StateLaws.{by}
 use borrow.Author.Needs.{needs}
 use Rattle.port.proofs.state.Port.sa.Statement.{statement}
 use Rattle.port.proofs.state.Port.sa.Tie as tie
-use Rattle.port.proofs.state.Port.sa.Reads as reads
-use Rattle.port.proofs.state.Port.sa.Lts as lts
-use Rattle.answers.proofs.code.Reads as code-reads
-use Rattle.words.proofs.shown.fatal.Reads as fatal-reads
-use Rattle.words.proofs.shown.step1.Reads as step1-reads
-use Rattle.words.proofs.shown.step2.Reads as step2-reads
-use Rattle.words.proofs.shown.step3.Reads as step3-reads
-use Rattle.words.proofs.shown.step4.Reads as step4-reads
 
--- src/shake.rt:58:29
 enum-told : tie.Need-enum-told
 enum-told c = search needs
 
--- src/shake.rt:58:29
 step1-requires : tie.Need-step1-requires
 step1-requires c κs = search needs
 
--- src/shake.rt:59:25
 enum-known-phase : tie.Need-enum-known-phase
 enum-known-phase c = search needs
 
--- src/shake.rt:60:26
 enum-known-phase-2 : tie.Need-enum-known-phase-2
 enum-known-phase-2 c = search needs
 
--- src/shake.rt:60:36
 step2-requires : tie.Need-step2-requires
 step2-requires c κs = search needs
 
--- src/shake.rt:61:26
 enum-known-phase-3 : tie.Need-enum-known-phase-3
 enum-known-phase-3 c = search needs
 
--- src/shake.rt:61:39
 step3-requires : tie.Need-step3-requires
 step3-requires c κs = search needs
 
--- src/shake.rt:62:32
 enum-told-2 : tie.Need-enum-told-2
 enum-told-2 c = search needs
 
--- src/shake.rt:62:32
 step4-requires : tie.Need-step4-requires
 step4-requires c κs = search needs
 
--- src/shake.rt:63:37
 enum-told-3 : tie.Need-enum-told-3
 enum-told-3 c = search needs
 
--- src/shake.rt:64:27
 enum-known-phase-4 : tie.Need-enum-known-phase-4
 enum-known-phase-4 c = search needs
 
--- src/shake.rt:64:53
 code-requires : tie.Need-code-requires
 code-requires c κs = search needs
 
--- src/shake.rt:64:33
 fatal-requires : tie.Need-fatal-requires
 fatal-requires c κs = search needs
 
--- src/shake.rt:52:5
 returns : tie.Need-returns
 returns c = unfold saOf in by (shown _) (c .before .enum-told .given .1) (c .step1 .ensures)
 
--- src/shake.rt:52:5
 returns-2 : tie.Need-returns-2
 returns-2 c = unfold saOf in by (shown _) (c .before .phase .given .1) (refl)
 
--- src/shake.rt:52:5
 returns-3 : tie.Need-returns-3
 returns-3 c = unfold saOf in by (shown _) (c .before .before .phase2 .given .1) (c .step2 .ensures)
 
--- src/shake.rt:52:5
 returns-4 : tie.Need-returns-4
 returns-4 c = unfold saOf in by (shown _) (c .before .before .phase3 .given .1) (c .step3 .ensures)
 
--- src/shake.rt:52:5
 returns-5 : tie.Need-returns-5
 returns-5 c = unfold saOf in by (shown _) (c .before .enum-told2 .given .1) (c .step4 .ensures)
 
--- src/shake.rt:52:5
 returns-6 : tie.Need-returns-6
 returns-6 c = unfold saOf in by (shown _) (c .enum-told3 .given .1) (refl)
 
--- src/shake.rt:52:5
 returns-7 : tie.Need-returns-7
 returns-7 c = unfold saOf in by (shown _) (c .before .before .before .phase4 .given .1) (c .fatal .ensures ∙ ap fatalWord (c .before .code .ensures))
 

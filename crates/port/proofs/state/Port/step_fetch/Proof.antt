@@ -2,103 +2,70 @@ use Rattle.port.proofs.FetchLaws.{step-off, step-idle, step-on, step-ta
 use borrow.Author.Needs.{needs}
 use Rattle.port.proofs.state.Port.step_fetch.Statement.{statement}
 use Rattle.port.proofs.state.Port.step_fetch.Tie as tie
-use Rattle.port.proofs.state.Port.step_fetch.Reads as reads
-use Rattle.port.proofs.state.Port.step_fetch.Lts as lts
-use Rattle.memory.proofs.touched.Reads as touched-reads
-use Rattle.memory.proofs.usable_of.Reads as usable-of-reads
-use Rattle.port.proofs.fetch.fetch_touch.Reads as fetch-touch-reads
-use Rattle.port.proofs.state.Port.fetch_after.Reads as fetch-after-reads
-use Rattle.port.proofs.state.Port.fetch_refused.Reads as fetch-refused-reads
-use Rattle.port.proofs.state.Port.fetch_tailed.Reads as fetch-tailed-reads
-use Rattle.port.proofs.state.site_of.Reads as site-of-reads
-use Rattle.port.proofs.tail.tail_after.Reads as tail-after-reads
-use Rattle.port.proofs.tail.tail_touch.Reads as tail-touch-reads
 
--- src/fetch.rt:231:13
 site-of-requires : tie.Need-site-of-requires
 site-of-requires c κs = search needs
 
--- src/fetch.rt:232:22
 enum-known-site : tie.Need-enum-known-site
 enum-known-site c = search needs
 
--- src/fetch.rt:233:39
 enum-told : tie.Need-enum-told
 enum-told c = search needs
 
--- src/fetch.rt:233:13
 fetch-refused-requires : tie.Need-fetch-refused-requires
 fetch-refused-requires c κs = search needs
 
--- src/fetch.rt:233:13
 returns : tie.Need-returns
 returns c = step-off _ _ _ (c .before .before .before .site-of .ensures) (c .fetch-refused .result) (c .before .enum-told .given .1) (c .fetch-refused .ensures)
 
--- src/fetch.rt:237:52
 enum-told-2 : tie.Need-enum-told-2
 enum-told-2 c = search needs
 
--- src/fetch.rt:237:33
 fetch-refused-requires-2 : tie.Need-fetch-refused-requires-2
 fetch-refused-requires-2 c κs = search needs
 
--- src/fetch.rt:238:31
 enum-known-side : tie.Need-enum-known-side
 enum-known-side c = search needs
 
--- src/fetch.rt:239:21
 usable-of-requires : tie.Need-usable-of-requires
 usable-of-requires c κs = search needs
 
--- src/fetch.rt:240:46
 fetch-touch-requires : tie.Need-fetch-touch-requires
 fetch-touch-requires c κs = search needs
 
--- src/fetch.rt:240:21
 touched-requires : tie.Need-touched-requires
 touched-requires c κs = search needs
 
--- src/fetch.rt:241:17
 fetch-after-requires : tie.Need-fetch-after-requires
 fetch-after-requires c κs = search needs
 
--- src/fetch.rt:243:32
 enum-known-side-2 : tie.Need-enum-known-side-2
 enum-known-side-2 c = search needs
 
--- src/fetch.rt:244:46
 tail-touch-requires : tie.Need-tail-touch-requires
 tail-touch-requires c κs = search needs
 
--- src/fetch.rt:244:21
 touched-requires-2 : tie.Need-touched-requires-2
 touched-requires-2 c κs = search needs
 
--- src/fetch.rt:245:38
 tail-after-requires : tie.Need-tail-after-requires
 tail-after-requires c κs = search needs
 
--- src/fetch.rt:245:17
 fetch-tailed-requires : tie.Need-fetch-tailed-requires
 fetch-tailed-requires c κs = search needs
 
--- src/fetch.rt:227:5
 returns-2 : tie.Need-returns-2
 returns-2 c = step-idle _ _ _ (c .before .before .before .before .before .before .site-of .ensures) (c .fetch-refused2 .result) (c .before .before .before .before .site .given .1) (c .before .enum-told2 .given .1) (c .fetch-refused2 .ensures)
 
--- src/fetch.rt:227:5
 same-length : tie.Need-same-length
 same-length c = search needs
 
--- src/fetch.rt:227:5
 returns-3 : tie.Need-returns-3
 returns-3 c = step-on _ _ _ (c .before .before .before .before .before .before .before .before .before .before .before .before .before .before .site-of .ensures) (c .fetch-after .result) (c .before .before .before .before .before .before .before .before .before .before .before .before .site .given .1) (c .before .before .before .before .before .before .before .before .before .side .given .1) (c .before .before .before .before .before .before .usable-of .ensures) (c .before .before .before .before .fetch-touch .ensures) (c .before .before .before .touched .ensures) (c .fetch-after .ensures)
 
--- src/fetch.rt:227:5
 same-length-2 : tie.Need-same-length-2
 same-length-2 c = search needs
 
--- src/fetch.rt:227:5
 returns-4 : tie.Need-returns-4
 returns-4 c = step-tail _ _ _ (c .before .before .before .before .before .before .before .before .before .before .before .before .before .site-of .ensures) (c .fetch-tailed .result) (c .before .before .before .before .before .before .before .before .before .before .before .site .given .1) (c .before .before .before .before .before .before .before .before .side2 .given .1) (c .before .before .before .before .before .tail-touch .ensures) (c .before .before .before .before .touched2 .ensures) (c .before .tail-after .ensures) (c .fetch-tailed .ensures)
 
