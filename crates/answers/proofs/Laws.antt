@@ -13,7 +13,7 @@ use Rattle.answers.specs.declared.Said.the-variants.{Going, Done, Refuse
 use Rattle.answers.specs.declared.Reply.{Reply}
 
 -- the refusal of a number, and the fatal error of a code
-refusalOf : ℕ → Refusal
+pub refusalOf : ℕ → Refusal
 refusalOf k =
     cond (eqb k 1) NotRunning
     (cond (eqb k 2) Busy
@@ -23,7 +23,7 @@ refusalOf k =
     (cond (eqb k 6) RingFull
     (cond (eqb k 7) Empty (cond (eqb k 8) NoSlot (cond (eqb k 9) BadEnvelope (cond (eqb k 10) DoesNotFit (cond (eqb k 11) BadSetting IdleSide))))))))))
 
-refusal-back : (r : Refusal) → refusalOf (refusalNumber r) ≡ r
+pub refusal-back : (r : Refusal) → refusalOf (refusalNumber r) ≡ r
 unfolding refusalOf
 refusal-back NotRunning = refl
 refusal-back Busy = refl

@@ -3,3 +3,4 @@ pub mod ShakeLaws
 pub mod SetupLaws
 pub mod SendLaws
 pub mod TakeLaws
+pub mod Determined

@@ -3,3 +3,4 @@ pub mod SideLaws
 pub mod FetchLaws
 pub mod PostLaws
 pub mod ShakeLaws
+pub mod Determined

@@ -83,7 +83,7 @@ over j k x y e =
     cut : (x * 2 ^ 14 + y) % 2 ^ 14 ≡ y % 2 ^ 14
     cut = omega arith
 
-high-part : (k : ℕ) (o f : Bool) (w : ℕ) → k ≤ 14 → highWord o f w % 2 ^ k ≡ w % 2 ^ k
+pub high-part : (k : ℕ) (o f : Bool) (w : ℕ) → k ≤ 14 → highWord o f w % 2 ^ k ≡ w % 2 ^ k
 high-part k o f w h =
     let a = flag-lt o in
     let b = flag-lt f in
@@ -94,7 +94,7 @@ high-part k o f w h =
     ∙ ap (λ (t : ℕ). w % 2 ^ t % 2 ^ k) (sym j)
     ∙ mod-mod-pow w (14 - k) k
 
-upper-part : (k x y : ℕ) → (x / 2 ^ k * 2 ^ k + y % 2 ^ k) % 2 ^ k ≡ y % 2 ^ k
+pub upper-part : (k x y : ℕ) → (x / 2 ^ k * 2 ^ k + y % 2 ^ k) % 2 ^ k ≡ y % 2 ^ k
 upper-part k x y = low (x / 2 ^ k) k (mod-lt y (pow-pos k))
 
 -- over n = 16 + k address bits

@@ -31,7 +31,7 @@ pub fn has_flag(high: u16) -> bool
 pub fn high_half(a: usize) -> u16
     ensures { λ r. ⌜ r ≡ a / 2 ^ 16 % 2 ^ 16 ⌝ }
 {
-    (a / 65536 % 65536) as u16
+    ((a >> 16) & 65535) as u16
 }
 
 // The low word for an address.

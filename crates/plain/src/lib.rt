@@ -1,0 +1,8 @@
+// The plain machine of demand 3, and what it promises of any run. The contract carries the fact; the function counts the operations.
+ghost use Rattle.plain.specs.Log.{EveryRunInOrder};
+
+pub fn every_run_in_order() -> u16
+    ensures { λ r. ⌜ EveryRunInOrder ⌝ }
+{
+    4
+}

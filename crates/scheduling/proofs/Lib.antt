@@ -1,0 +1,4 @@
+pub mod MachineLaws
+pub mod OpeningLaws
+pub mod DriveLaws
+pub mod ScheduleLaws

@@ -1,0 +1,269 @@
+-- Demand 3: from handshake, polls and an accepted setup, whatever the order of calls. Assumes nothing.
+use Prim.Native.Nat.{ℕ, suc, _+_, _*_, _-_, _/_, _%_, _^_, _<_, _≤_, min}
+use mathlib.Core.Path.{_≡_, refl, sym, ap, ap₂, subst, _∙_}
+use mathlib.Core.Bool.{Bool, true, false, cond}
+use mathlib.Core.List.{List, [], _∷_, _++_}
+use native.Mathlib.Omega.{arith}
+use native.Mathlib.Nat.{mod-add-mod}
+use lib.Dec.{leb}
+use lib.ListN.{length, getD, drop, length-drop}
+use lib.Seq.{getD-drop}
+use Rattle.words.specs.Words.{addressBits, goWord}
+use Rattle.texts.specs.Texts.{zeros, padded}
+use Rattle.memory.specs.Memory.{Memory, usable}
+use Rattle.memory.specs.OneWord.{found}
+use Rattle.memory.specs.declared.Word.the-variants.{Value}
+use Rattle.memory.specs.declared.Touch.the-variants.{Read}
+use Rattle.answers.specs.Told.{Told, told, refusal, Closing, done, refused}
+use Rattle.area.specs.Layout.{slots, slotCount, base, numberOf, slotAt, ringsEnd, envelopeAt, areaLies, areaCleared}
+use Rattle.area.specs.Setup.{poolEnd, fits, setUp}
+use Rattle.area.specs.declared.Area.{Area}
+use Rattle.area.specs.declared.Ring.{Ring}
+use Rattle.area.specs.declared.Ring.the-variants.{Command, Response}
+use Rattle.layout.specs.Facts.{AreaFacts}
+use Rattle.layout.proofs.Rings.{slots-some, number-lt, every-layout}
+use Rattle.plain.specs.Plain.{Entry, Bounds, Plain, start}
+use Rattle.plain.specs.Log.{Log, nothing, Ran, begin, Good}
+use Rattle.plain.proofs.InOrder.{every-run-in-order}
+use Rattle.port.specs.State as PortState
+use Rattle.port.specs.Shake.{saOf}
+use Rattle.port.specs.declared.state.Made.{Made}
+use Rattle.port.specs.declared.state.Stage.the-variants as S
+use Rattle.port.specs.declared.state.Phase.the-variants.{Running}
+use Rattle.port.specs.declared.state.Fetcher.{Fetcher}
+use Rattle.port.specs.declared.state.Fetcher.the-variants.{NoFetch, Fetching, FetchTail}
+use Rattle.port.specs.declared.state.Poster.{Poster}
+use Rattle.port.specs.declared.state.Poster.the-variants.{NoPost, Posting, PostTail}
+use Rattle.port.specs.declared.state.Port.{Port}
+use Rattle.host.specs.State as HostState
+use Rattle.host.specs.Shake.{areaOf}
+use Rattle.host.specs.Setup.{readied, setUpBy}
+use Rattle.host.specs.declared.state.Shake.the-variants.{Finished}
+use Rattle.host.specs.declared.state.Beginning.{Beginning}
+use Rattle.host.specs.declared.state.Taker.{Taker}
+use Rattle.host.specs.declared.state.Taker.the-variants.{NoTake, Taking}
+use Rattle.host.specs.declared.state.TakeStage.the-variants as T
+use Rattle.host.specs.declared.state.Host.{Host}
+use Rattle.meeting.specs.Meeting.{Pair, exchanges, opened, running}
+use Rattle.meeting.proofs.Meet.{every-meeting}
+use Rattle.traffic.specs.Places.{Site, view}
+use Rattle.traffic.specs.Rings.{Letter, blank, RingInv}
+use Rattle.traffic.specs.World.{World, world, Ev, final}
+use Rattle.traffic.specs.Play.{idle, Play, game, plays, ends}
+use Rattle.traffic.specs.Invariant.{Past, FetchInv, PostInv, wholeFrom, Inv, Setting, fetchJob, postJob, plainOf, playOf}
+use Rattle.traffic.specs.Traffic.{AllProper, met, polled, started, Start, boundsOf, siteOf, Promise, AtStart, EveryRun}
+use Rattle.traffic.proofs.SetupLaws.{Picture, picture}
+use Rattle.traffic.proofs.FirstRings.{first-ring}
+use Rattle.traffic.proofs.Begin.{zero-word, PollFetch, PollPost, Polling, poll-all}
+use Rattle.traffic.proofs.Run.{Whole, whole}
+
+usable-end : (n size : ℕ) → usable n size ≤ 2 ^ n
+unfolding usable
+usable-end n size = omega arith
+
+-- an accepted setup fits, and leaves this
+setup-fits : (n : ℕ) (a : Area) (pool : ℕ) (m : Memory) → setUpBy n (HostState.fresh Finished a) pool m .told ≡ told done false → fits n a pool (usable n (length m)) ≡ true
+unfolding setUpBy
+setup-fits n a pool m e = go (fits n a pool (usable n (length m))) refl
+  where
+    go : (o : Bool) → fits n a pool (usable n (length m)) ≡ o → fits n a pool (usable n (length m)) ≡ true
+    go true k = k
+    go false k =
+        let c : refused 10 ≡ done = rw k at (ap (λ (t : Told). t .closing) e) in
+        let z : _≡_ {A = ℕ} 0 1 = cc in
+        absurd (omega arith)
+
+pub setup-is : (n : ℕ) (a : Area) (pool : ℕ) (m : Memory) → fits n a pool (usable n (length m)) ≡ true
+    → setUpBy n (HostState.fresh Finished a) pool m ≡ record { told = told done false; state = readied (HostState.fresh Finished a) pool; memory = setUp n a pool m }
+unfolding setUpBy
+setup-is n a pool m k = rw k
+
+sa-zero : (p : Port) (a : Area) (go : ℕ) → p .phase ≡ Running a go → saOf p ≡ 0
+unfolding saOf
+sa-zero p a go e = rw e
+
+-- what a polling port has begun is what the invariant asks of it
+polls-fetch : (g : Site) (p : Port) (x : Past) (f : Fetcher) → p .counts .fetch ≡ 0 → PollFetch p f → FetchInv g p x f
+polls-fetch g p x NoFetch e P = tt
+polls-fetch g p x (Fetching S.High c) e P = record { slot = P .0 ∙ sym e; progress = P .1 }
+polls-fetch g p x (Fetching S.Low c) e P = absurd P
+polls-fetch g p x (Fetching S.Length c) e P = absurd P
+polls-fetch g p x (Fetching S.Header c) e P = absurd P
+polls-fetch g p x (Fetching S.Text c) e P = absurd P
+polls-fetch g p x (Fetching S.Release c) e P = absurd P
+polls-fetch g p x (FetchTail s c) e P = absurd P
+
+polls-post : (g : Site) (v : _) (p : Port) (x : Past) (q : Poster) → p .counts .post ≡ 0 → PollPost p (x .posting) q → PostInv g v p x q
+polls-post g v p x NoPost e P = tt
+polls-post g v p x (Posting S.High c) e P =
+    record {
+      slot = P .slot ∙ sym e;
+      size = P .size;
+      short = P .short;
+      bytes = P .bytes;
+      text = P .text;
+      waits = λ k. absurd (mathlib.Core.Bool.false≢true (sym (P .unsolicited) ∙ k));
+      progress = tt;
+    }
+polls-post g v p x (Posting S.Low c) e P = absurd P
+polls-post g v p x (Posting S.Length c) e P = absurd P
+polls-post g v p x (Posting S.Header c) e P = absurd P
+polls-post g v p x (Posting S.Text c) e P = absurd P
+polls-post g v p x (Posting S.Release c) e P = absurd P
+polls-post g v p x (PostTail s c) e P = absurd P
+
+whole-shift : (k : ℕ) (t : Taker) → wholeFrom k t ≡ k + wholeFrom 0 t
+whole-shift k NoTake = omega arith
+whole-shift k (Taking T.Look c) = omega arith
+whole-shift k (Taking T.Length c) = omega arith
+whole-shift k (Taking T.Header c) = omega arith
+whole-shift k (Taking T.Text c) = omega arith
+whole-shift k (Taking T.Refill c) = omega arith
+whole-shift k (Taking T.Give c) = omega arith
+
+-- what is left of a history stands in the ring from the taker's slot on
+held : (g : Site) (r : Ring) (m : Memory) (i j : ℕ) (hist : List Entry) (h from : ℕ) → RingInv g (view g m) r i j hist h from → (k : ℕ) → from ≤ h + k → k < length (drop h hist)
+    → Letter (view g m) r ((j + k) % slots (g .area) r) (getD (drop h hist) k blank)
+held g r m i j hist h from R k f l =
+    let e : (j + k) % slots (g .area) r ≡ (h + k) % slots (g .area) r = ap (λ (y : ℕ). (y + k) % slots (g .area) r) (R .taker) ∙ mod-add-mod h (slots (g .area) r) k in
+    rw (e, getD-drop h hist k blank) (R .kept (h + k) f (omega (arith, l, length-drop h hist)))
+
+-- a promise, from what holds of the whole run
+promised : (b : Beginning) (pool end : ℕ) (bs : Bounds) (St : Setting (siteOf b pool) end bs) → 1 ≤ bs .limit → (es : List Ev) (w : World) (x : Past) → Whole (siteOf b pool) end bs St es w x
+    → (l : Log) → Ran bs l (plainOf w x) → Promise (siteOf b pool) bs es w (playOf w x)
+promised b pool end bs St some es w x W l r =
+    let g : Site = siteOf b pool in
+    let f : World = final addressBits es w in
+    let y : Past = W .past in
+    let q = W .reaches in
+    let n = W .ran l r in
+    record {
+      moments = W .moments;
+      each = W .each;
+      same = W .same;
+      log = n .0;
+      good = subst (λ (s : Play). Good bs (n .0) (s .plain)) (sym q) (every-run-in-order bs some (n .0) (plainOf f y) (n .1));
+      account = ap (λ (s : Play). s .plain .account) q;
+      unanswered = ap (λ (s : Play). s .plain .unanswered) q;
+      owed = ap (λ (s : Play). s .plain .owed) q;
+      commands-held =
+          subst (λ (s : Play). (k : ℕ) → k < length (s .plain .commands) → Letter (view g (f .memory)) Command ((f .port .counts .fetch + k) % slots (g .area) Command) (getD (s .plain .commands) k blank)) (sym q)
+          (λ k u. held g Command (f .memory) (f .host .counts .send) (f .port .counts .fetch) (y .sent) (y .fetched) (y .fetched) (W .inv .commands) k (omega arith) u);
+      responses-held =
+          subst (λ (s : Play). (k : ℕ) → wholeFrom 0 (f .host .taker) ≤ k → k < length (s .plain .responses) → Letter (view g (f .memory)) Response ((f .host .counts .take + k) % slots (g .area) Response) (getD (s .plain .responses) k blank)) (sym q)
+          (λ k v u. held g Response (f .memory) (f .port .counts .post) (f .host .counts .take) (y .posted) (y .taken) (wholeFrom (y .taken) (f .host .taker)) (W .inv .responses) k (omega (arith, whole-shift (y .taken) (f .host .taker))) u);
+      quiet = sa-zero (f .port) (g .area) (W .inv .go) (W .inv .port-runs);
+    }
+
+module _ (b : Beginning) (x : Pair) (ps : List Ev) (pool : ℕ) (St : Start b x ps pool) where
+  a : Area
+  a = areaOf b
+
+  -- after the handshake
+  slot-in : (r : Ring) → (base addressBits (areaOf b) ≤ slotAt addressBits (areaOf b) r 0 + 2) × (slotAt addressBits (areaOf b) r 0 + 2 + 2 ≤ ringsEnd addressBits (areaOf b))
+  unfolding slotAt
+  slot-in r = (omega arith, omega (arith, number-lt (areaOf b) r 0 (slots-some (areaOf b) r)))
+
+  polls : Polling (areaOf b) (x .port .made) (areaCleared addressBits (x .memory) (areaOf b)) (HostState.fresh Finished (areaOf b)) (polled b x ps)
+  polls =
+      poll-all addressBits (areaOf b) (x .port .made) (areaCleared addressBits (x .memory) (areaOf b)) (HostState.fresh Finished (areaOf b))
+      (λ r. zero-word addressBits (x .memory) (areaOf b) (slotAt addressBits (areaOf b) r 0 + 2) (St .area-in) (slot-in r .0) (slot-in r .1))
+      ps (St .polls) (St .bytes) (met b x)
+      (subst (λ (y : Pair). Polling (areaOf b) (x .port .made) (areaCleared addressBits (x .memory) (areaOf b)) (HostState.fresh Finished (areaOf b)) (world (y .host) (y .port) (y .memory)))
+      (sym (every-meeting b x (St .settings) (St .area-in) .meet))
+      record { host = refl; memory = refl; phase = refl; made-is = refl; counts = refl; fetch = tt; text = []; post = tt })
+
+  before : Memory
+  before = polled b x ps .memory
+
+  end : ℕ
+  end = usable addressBits (length before)
+
+  fit : fits addressBits (areaOf b) pool end ≡ true
+  unfolding end before
+  fit = setup-fits addressBits (areaOf b) pool (polled b x ps .memory) (subst (λ (y : Host). setUpBy addressBits y pool (polled b x ps .memory) .told ≡ told done false) (polls .host) (St .setup))
+
+  F : AreaFacts addressBits (areaOf b) pool end
+  F = every-layout .area addressBits (areaOf b) pool end fit
+
+  rings-in : ringsEnd addressBits (areaOf b) ≤ end
+  unfolding slotAt
+  rings-in = omega (arith, slots-some (areaOf b) Command, F .slot-inside Command (slots (areaOf b) Command - 1) (omega (arith, slots-some (areaOf b) Command)))
+
+  pool-in : poolEnd (areaOf b) pool ≤ end
+  unfolding envelopeAt
+  pool-in = omega (arith, slots-some (areaOf b) Command, F .envelope-inside Command (slots (areaOf b) Command - 1) (omega (arith, slots-some (areaOf b) Command)))
+
+  setting : Setting (siteOf b pool) end (boundsOf b x)
+  unfolding end before
+  setting =
+      record {
+        facts = F;
+        wide = omega arith;
+        narrow = omega arith;
+        end-low = usable-end addressBits (length (polled b x ps .memory));
+        few = St .most;
+        command-slots = refl;
+        response-slots = refl;
+      }
+
+  is-started : started b x ps pool ≡ world (readied (HostState.fresh Finished (areaOf b)) pool) (polled b x ps .port) (setUp addressBits (areaOf b) pool before)
+  unfolding before end
+  is-started =
+      ap (λ (o : HostState.Outcome). world (o .state) (polled b x ps .port) (o .memory))
+      (ap (λ (y : Host). setUpBy addressBits y pool (polled b x ps .memory)) (polls .host) ∙ setup-is addressBits (areaOf b) pool (polled b x ps .memory) fit)
+
+  first : Past
+  first = record { sent = []; fetched = 0; posted = []; taken = 0; sending = []; posting = polls .text; holding = [] }
+
+  now : World
+  now = world (readied (HostState.fresh Finished (areaOf b)) pool) (polled b x ps .port) (setUp addressBits (areaOf b) pool before)
+
+  shown : Picture addressBits (areaOf b) pool end F rings-in pool-in (slotCount (areaOf b)) (setUp addressBits (areaOf b) pool before)
+  unfolding end
+  shown = picture addressBits (areaOf b) pool end F rings-in pool-in before refl
+
+  ring : (r : Ring) → RingInv (siteOf b pool) (view (siteOf b pool) (setUp addressBits (areaOf b) pool before)) r 0 0 [] 0 0
+  ring r = first-ring (siteOf b pool) end F rings-in pool-in (omega arith) (omega arith) (setting .end-low) (setUp addressBits (areaOf b) pool before) shown r
+
+  inv : Inv (siteOf b pool) end (boundsOf b x) now first
+  unfolding now first
+  inv =
+      record {
+        host-area = refl;
+        host-pool = refl;
+        host-runs = refl;
+        host-ready = refl;
+        go = goWord;
+        port-runs = polls .phase;
+        limit = ap (λ (y : Made). y .limit) (polls .made-is);
+        size = shown .size;
+        commands = subst (λ (k : ℕ). RingInv (siteOf b pool) (view (siteOf b pool) (setUp addressBits (areaOf b) pool before)) Command 0 k [] 0 0) (sym (ap (λ y. y .fetch) (polls .counts))) (ring Command);
+        responses = subst (λ (k : ℕ). RingInv (siteOf b pool) (view (siteOf b pool) (setUp addressBits (areaOf b) pool before)) Response k 0 [] 0 0) (sym (ap (λ y. y .post) (polls .counts))) (ring Response);
+        send = tt;
+        take = tt;
+        fetch = polls-fetch (siteOf b pool) (polled b x ps .port) (record { sent = []; fetched = 0; posted = []; taken = 0; sending = []; posting = polls .text; holding = [] }) (polled b x ps .port .fetcher) (ap (λ y. y .fetch) (polls .counts)) (polls .fetch);
+        post = polls-post (siteOf b pool) (view (siteOf b pool) (setUp addressBits (areaOf b) pool before)) (polled b x ps .port) (record { sent = []; fetched = 0; posted = []; taken = 0; sending = []; posting = polls .text; holding = [] }) (polled b x ps .port .poster) (ap (λ y. y .post) (polls .counts)) (polls .post);
+        sum = omega (arith, St .some, ap (λ y. y .unanswered) (polls .counts), ap (λ y. y .owed) (polls .counts));
+      }
+
+  plain-is : plainOf now first ≡ start (boundsOf b x)
+  unfolding now first
+  plain-is =
+      λ i. record { commands = []; responses = []; account = 1; unanswered = polls .counts i .unanswered; owed = polls .counts i .owed }
+
+  at-start : AtStart b x ps pool
+  unfolding now first
+  at-start =
+      record {
+        fetcher = fetchJob [] (polled b x ps .port .fetcher);
+        poster = postJob (polls .text) (polled b x ps .port .poster);
+        promise = λ es y.
+            subst (λ (w : World). Promise (siteOf b pool) (boundsOf b x) es w (game (start (boundsOf b x)) idle idle (fetchJob [] (polled b x ps .port .fetcher)) (postJob (polls .text) (polled b x ps .port .poster)))) (sym is-started)
+            (subst (λ (s : Plain). Promise (siteOf b pool) (boundsOf b x) es now (game s idle idle (fetchJob [] (polled b x ps .port .fetcher)) (postJob (polls .text) (polled b x ps .port .poster)))) plain-is
+            (promised b pool end (boundsOf b x) setting (St .some) es now first (whole (siteOf b pool) end (boundsOf b x) setting es y now first inv) nothing
+            (subst (λ (s : Plain). Ran (boundsOf b x) nothing s) (sym plain-is) begin)));
+      }
+
+pub every-run : EveryRun
+every-run b x ps pool St = at-start b x ps pool St

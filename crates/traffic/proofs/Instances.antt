@@ -1,0 +1,101 @@
+-- A start for every pair of exponents, and a mixed run computed. Assumes nothing.
+use Prim.Native.Nat.{ℕ, _+_, _*_, _-_, _<_, _≤_}
+use mathlib.Core.Path.{_≡_, refl, sym, ap, subst, _∙_}
+use mathlib.Core.Bool.{Bool, true, false, cond, _&&_}
+use mathlib.Core.List.{[]}
+use native.Mathlib.Omega.{arith}
+use lib.ListN.{length}
+use borrow.Author.Tests.{le-leb, lt-leb}
+use Rattle.texts.specs.Texts.{zeros, byteAt, withByte, wordOf, withText, padded}
+use Rattle.memory.specs.Memory.{usable, lies, inside, wordAt, withWord, cleared}
+use Rattle.rules.specs.Rules.{faultOf, carriedOf, leftOf}
+use Rattle.area.specs.Layout.{slots, base, slotAt, nextOf, beforeOf, alone, indicator, envelopeAt, hasVector, stepInterrupt, areaLies, areaCleared}
+use Rattle.area.specs.Setup.{fits, slotSet, slotsSet, setUp}
+use Rattle.port.specs.Shake.{created, saOf, firstHeard, saWritten}
+use Rattle.port.specs.Tail.{tailStart, tailTouch, tailAfter}
+use Rattle.port.specs.Fetch.{fetchTouch, fetchHigh, fetchLow, fetchOn, fetchHeader, fetchText, fetched, fetchRelease, fetchAfter, fetchTailed, fetchStep, fetchBegun}
+use Rattle.port.specs.Post.{creditsOf, postTouch, postHigh, postLow, postOn, posted, postRelease, postAfter, postTailed, postStep, postBegun}
+use Rattle.host.specs.State.{isReady}
+use Rattle.host.specs.Shake.{accepts, begun, expecting, saSeen}
+use Rattle.host.specs.Setup.{setUpBy}
+use Rattle.host.specs.Send.{sendTouch, sendLook, sendOn, sent, sendAfter, sendStep, sendBegun}
+use Rattle.host.specs.Take.{takeTouch, takeLook, takeOn, takeHeader, takeText, taken, takeClosed, takeAfter, takeStep, takeBegun}
+use Rattle.meeting.specs.Meeting.{opened, exchange, exchanges}
+use Rattle.meeting.specs.Meeting.{Pair, running}
+use Rattle.meeting.proofs.Meet.{every-meeting}
+use Rattle.answers.specs.Told.{told, done}
+use Rattle.words.specs.Words.{addressBits}
+use Rattle.memory.specs.Memory.{Memory}
+use Rattle.memory.proofs.Laws.{usable-le, lies-yes, cleared-length}
+use Rattle.area.specs.Layout.{slotCount, ringsEnd, lead}
+use Rattle.area.specs.Setup.{poolEnd}
+use Rattle.area.specs.declared.Area.{Area}
+use Rattle.area.specs.declared.Ring.the-variants.{Command, Response}
+use Rattle.layout.proofs.Rings.{slots-some, slots-most}
+use Rattle.host.specs.State as HostState
+use Rattle.host.specs.Shake.{areaOf}
+use Rattle.host.specs.declared.state.Beginning.{Beginning}
+use Rattle.host.specs.declared.state.Shake.the-variants.{Finished}
+use Rattle.traffic.specs.Traffic.{Start}
+use Rattle.traffic.specs.Instance.{settings, EveryPair, MixedRun}
+use Rattle.traffic.proofs.Demand.{setup-is}
+
+pub mixed-run : MixedRun
+unfolding zeros byteAt withByte wordOf withText padded usable lies inside wordAt withWord cleared faultOf carriedOf leftOf slots base slotAt nextOf beforeOf alone indicator envelopeAt hasVector stepInterrupt areaLies areaCleared fits slotSet slotsSet setUp created saOf firstHeard saWritten tailStart tailTouch tailAfter fetchTouch fetchHigh fetchLow fetchOn fetchHeader fetchText fetched fetchRelease fetchAfter fetchTailed fetchStep fetchBegun creditsOf postTouch postHigh postLow postOn posted postRelease postAfter postTailed postStep postBegun isReady accepts begun expecting saSeen setUpBy sendTouch sendLook sendOn sent sendAfter sendStep sendBegun takeTouch takeLook takeOn takeHeader takeText taken takeClosed takeAfter takeStep takeBegun opened exchange exchanges
+mixed-run = refl
+
+-- the settings, the area and the setup of every pair of exponents
+module _ (c r : ℕ) (i : Bool) (v : ℕ) where
+  accepted : c ≤ 7 → r ≤ 7 → v ≤ 127 → accepts addressBits (settings c r i v) ≡ true
+  unfolding accepts
+  accepted hc hr hv = rw (le-leb c 7 hc, le-leb r 7 hr, le-leb v 127 hv)
+
+  few : slotCount (areaOf (settings c r i v)) ≤ 256
+  few = omega (arith, slots-most (areaOf (settings c r i v)) Response, slots-most (areaOf (settings c r i v)) Command)
+
+  some : 2 ≤ slotCount (areaOf (settings c r i v))
+  some = omega (arith, slots-some (areaOf (settings c r i v)) Response, slots-some (areaOf (settings c r i v)) Command)
+
+  room : (m : Memory) → length m ≡ 32768 → usable addressBits (length m) ≡ 32768
+  unfolding usable
+  room m e = rw e
+
+  in-memory : (m : Memory) → length m ≡ 32768 → areaLies addressBits m (areaOf (settings c r i v)) ≡ true
+  unfolding areaLies base
+  in-memory m e = sym (lies-yes addressBits m 4 (8 + 4 * slotCount (areaOf (settings c r i v))) 32768 (sym (room m e)) (omega arith) (omega (arith, few)))
+
+  cleared-size : (m : Memory) → length m ≡ 32768 → length (areaCleared addressBits m (areaOf (settings c r i v))) ≡ 32768
+  unfolding areaCleared base
+  cleared-size m e =
+      cleared-length addressBits m 4 (8 + 4 * slotCount (areaOf (settings c r i v)))
+      (sym (lies-yes addressBits m 4 (8 + 4 * slotCount (areaOf (settings c r i v))) 32768 (sym (room m e)) (omega arith) (omega (arith, few)))) (omega arith) (omega (arith, few)) ∙ e
+
+  fitting : fits addressBits (areaOf (settings c r i v)) 2048 32768 ≡ true
+  unfolding fits base
+  fitting =
+      rw (
+        le-leb (8 + 4 * slotCount (areaOf (settings c r i v))) 32768 (omega (arith, few)),
+        le-leb (2048 + 64 * slotCount (areaOf (settings c r i v))) 32768 (omega (arith, few)),
+        lt-leb (2048 + 64 * slotCount (areaOf (settings c r i v))) 4 (omega arith),
+        le-leb (8 + 4 * slotCount (areaOf (settings c r i v))) 2048 (omega (arith, few)),
+      )
+
+  set-up : (m : Memory) → length m ≡ 32768 → setUpBy addressBits (HostState.fresh Finished (areaOf (settings c r i v))) 2048 m .told ≡ told done false
+  set-up m e =
+      ap (λ (o : HostState.Outcome). o .told) (setup-is addressBits (areaOf (settings c r i v)) 2048 m (ap (fits addressBits (areaOf (settings c r i v)) 2048) (room m e) ∙ fitting))
+
+pub every-pair : EveryPair
+every-pair c r i v x hc hr hv e l u =
+    let s = accepted c r i v hc hr hv in
+    let k = in-memory c r i v (x .memory) e in
+    record {
+      settings = s;
+      area-in = k;
+      some = l;
+      most = u;
+      polls = tt;
+      bytes = tt;
+      setup =
+          subst (λ (y : Pair). setUpBy addressBits (y .host) 2048 (y .memory) .told ≡ told done false) (sym (every-meeting (settings c r i v) x s k .meet))
+          (set-up c r i v (areaCleared addressBits (x .memory) (areaOf (settings c r i v))) (cleared-size c r i v (x .memory) e));
+    }

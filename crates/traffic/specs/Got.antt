@@ -1,0 +1,12 @@
+-- A text that is being read a word at a time.
+use Prim.Native.Nat.{ℕ, _*_, _<_, _≤_}
+use mathlib.Core.Path.{_≡_}
+use mathlib.Core.List.{List}
+use mathlib.Core.Logic.{_⊎_}
+use lib.ListN.{length, getD}
+
+-- A room into which the first k words of t were read
+pub record Got (room t : List ℕ) (k : ℕ) : Type 0 where
+  pub size : length room ≡ 60
+  pub there : (j : ℕ) → j < 2 * k → j < length t → getD room j 0 ≡ getD t j 0
+  pub rest : (j : ℕ) → (length t ≤ j) ⊎ (2 * k ≤ j) → getD room j 0 ≡ 0

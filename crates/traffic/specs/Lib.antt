@@ -1,0 +1,9 @@
+-- Traffic in any order.
+pub mod Places
+pub mod Rings
+pub mod World
+pub mod Play
+pub mod Got
+pub mod Invariant
+pub mod Traffic
+pub mod Instance

@@ -1,0 +1,111 @@
+-- Demand 3, stated: where a run starts, and what is promised of it.
+use Prim.Native.Nat.{ℕ, _+_, _%_, _≤_, _<_}
+use mathlib.Core.Path.{_≡_}
+use mathlib.Core.Bool.{true, false}
+use mathlib.Core.List.{List, [], _∷_}
+use lib.ListN.{length, getD}
+use Rattle.words.specs.Words.{addressBits}
+use Rattle.memory.specs.Memory.{Memory}
+use Rattle.answers.specs.Told.{told, done}
+use Rattle.area.specs.Layout.{slots, areaLies}
+use Rattle.area.specs.declared.Area.{Area}
+use Rattle.area.specs.declared.Ring.the-variants.{Command, Response}
+use Rattle.plain.specs.Plain.{Entry, Bounds, Plain, start}
+use Rattle.plain.specs.Log.{Log, Good}
+use Rattle.port.specs.Shake.{saOf}
+use Rattle.host.specs.Shake.{accepts, areaOf}
+use Rattle.host.specs.Setup.{setUpBy}
+use Rattle.host.specs.declared.state.Beginning.{Beginning}
+use Rattle.host.specs.declared.state.Taker.{Taker}
+use Rattle.meeting.specs.Meeting.{Pair, exchanges, opened}
+use Rattle.traffic.specs.Places.{Site, view}
+use Rattle.traffic.specs.Rings.{Letter, blank}
+use Rattle.traffic.specs.World.{World, world, Ev, beginSend, stepSend, beginTake, stepTake, beginFetch, stepFetch, beginPost, stepPost, clearMark, readSa, writeSa, showSa, timeIsUp, Proper, answers, final}
+use Rattle.traffic.specs.Play.{Job, idle, Moment, Play, game, plays, ends}
+use Rattle.traffic.specs.Invariant.{fetchJob, postJob, wholeFrom}
+
+-- Every text of the calls is bytes.
+abbrev pub AllProper : List Ev → Type 0
+AllProper [] = Unit {0}
+AllProper (e ∷ es) = Proper e × AllProper es
+
+-- What a port may do between GO and the setup: it finds a ring of zeros, and nothing to fetch or to post into.
+abbrev pub Polls : Ev → Type 0
+Polls (beginSend f t) = ⊥
+Polls stepSend = ⊥
+Polls beginTake = ⊥
+Polls stepTake = ⊥
+Polls beginFetch = Unit {0}
+Polls stepFetch = Unit {0}
+Polls (beginPost a t) = Unit {0}
+Polls stepPost = Unit {0}
+Polls (clearMark r) = ⊥
+Polls readSa = ⊥
+Polls (writeSa w) = ⊥
+Polls (showSa w) = ⊥
+Polls timeIsUp = ⊥
+
+abbrev pub AllPoll : List Ev → Type 0
+AllPoll [] = Unit {0}
+AllPoll (e ∷ es) = Polls e × AllPoll es
+
+-- The handshake by the halves' own calls, from any host and any port over any memory; what the port polls; the setup.
+abbrev pub met : Beginning → Pair → World
+met b x = world (exchanges 4 (opened b x) .host) (exchanges 4 (opened b x) .port) (exchanges 4 (opened b x) .memory)
+
+abbrev pub polled : Beginning → Pair → List Ev → World
+polled b x ps = final addressBits ps (met b x)
+
+abbrev pub started : Beginning → Pair → List Ev → ℕ → World
+started b x ps pool =
+    world (setUpBy addressBits (polled b x ps .host) pool (polled b x ps .memory) .state) (polled b x ps .port)
+    (setUpBy addressBits (polled b x ps .host) pool (polled b x ps .memory) .memory)
+
+-- A start: good settings, an area that lies in memory, a limit of 1 to 64, an accepted setup.
+pub record Start (b : Beginning) (x : Pair) (ps : List Ev) (pool : ℕ) : Type 0 where
+  pub settings : accepts addressBits b ≡ true
+  pub area-in : areaLies addressBits (x .memory) (areaOf b) ≡ true
+  pub some : 1 ≤ x .port .made .limit
+  pub most : x .port .made .limit ≤ 64
+  pub polls : AllPoll ps
+  pub bytes : AllProper ps
+  pub setup : setUpBy addressBits (polled b x ps .host) pool (polled b x ps .memory) .told ≡ told done false
+
+-- Queues as long as the rings, and the board's limit.
+abbrev pub boundsOf : Beginning → Pair → Bounds
+boundsOf b x = record { commands = slots (areaOf b) Command; responses = slots (areaOf b) Response; limit = x .port .made .limit }
+
+abbrev pub siteOf : Beginning → ℕ → Site
+siteOf b pool = record { bits = addressBits; area = areaOf b; pool = pool }
+
+-- What is promised of a run of calls es from world w, which stands for the play s.
+pub record Promise (g : Site) (b : Bounds) (es : List Ev) (w : World) (s : Play) : Type 0 where
+  -- one choice of moments, one for each call, with which the plain machine gives every answer
+  pub moments : List Moment
+  pub each : length moments ≡ length es
+  pub same : plays b moments es s ≡ answers addressBits es w
+  -- order, each once, the queues' bounds, and the four that sum to the limit, from the history alone
+  pub log : Log
+  pub good : Good b log (ends b moments es s .plain)
+  -- what is stored agrees: account, commands unanswered, credits still to grant
+  pub account : ends b moments es s .plain .account ≡ final addressBits es w .host .counts .account
+  pub unanswered : ends b moments es s .plain .unanswered ≡ final addressBits es w .port .counts .unanswered
+  pub owed : ends b moments es s .plain .owed ≡ final addressBits es w .port .counts .owed
+  -- and the envelopes in memory: what the queues hold stands in the rings from the taker's slot on, with its bytes and credits
+  -- (but for a response that the host has read and is about to give back)
+  pub commands-held : (k : ℕ) → k < length (ends b moments es s .plain .commands)
+      → Letter (view g (final addressBits es w .memory)) Command ((final addressBits es w .port .counts .fetch + k) % slots (g .area) Command) (getD (ends b moments es s .plain .commands) k blank)
+  pub responses-held : (k : ℕ) → wholeFrom 0 (final addressBits es w .host .taker) ≤ k → k < length (ends b moments es s .plain .responses)
+      → Letter (view g (final addressBits es w .memory)) Response ((final addressBits es w .host .counts .take + k) % slots (g .area) Response) (getD (ends b moments es s .plain .responses) k blank)
+  -- no fatal error
+  pub quiet : saOf (final addressBits es w .port) ≡ 0
+
+-- The plain machine at the start: empty, with what the port has begun and not stepped since it last polled.
+pub record AtStart (b : Beginning) (x : Pair) (ps : List Ev) (pool : ℕ) : Type 0 where
+  pub fetcher : Job
+  pub poster : Job
+  pub promise : (es : List Ev) → AllProper es
+      → Promise (siteOf b pool) (boundsOf b x) es (started b x ps pool) (game (start (boundsOf b x)) idle idle fetcher poster)
+
+abbrev pub EveryRun : Type 0
+EveryRun = (b : Beginning) (x : Pair) (ps : List Ev) (pool : ℕ) → Start b x ps pool → AtStart b x ps pool
