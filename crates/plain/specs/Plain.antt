@@ -1,5 +1,5 @@
 -- The plain machine of demand 3: two bounded first-in first-out queues, long as the rings, with the credit counts.
--- It does each operation whole, in one go. It knows no memory and no stage of an operation.
+-- It does each operation whole, in one go. It knows nothing of the words in between and nothing of an operation half done.
 use Prim.Native.Nat.{ℕ, _+_, _-_}
 use mathlib.Core.Bool.{Bool, true, false, cond}
 use mathlib.Core.List.{List, [], _∷_, _++_}
@@ -72,7 +72,7 @@ fetchFrom x (e ∷ es) =
 unfoldable pub fetch : Plain → Result
 fetch x = fetchFrom x (x .commands)
 
--- A post, as an answer or unsolicited: no slot (8), or the message is the youngest in its queue. An answer carries its credits,
+-- A post, as an answer or unsolicited: no room (8), or the message is the youngest in its queue. An answer carries its credits,
 -- closes a command and grants; an unsolicited message carries 0.
 unfoldable pub post : Bounds → Bool → List ℕ → Plain → Result
 post b answers t x =

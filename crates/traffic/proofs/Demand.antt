@@ -49,7 +49,7 @@ use Rattle.meeting.proofs.Meet.{every-meeting}
 use Rattle.traffic.specs.Places.{Site, view}
 use Rattle.traffic.specs.Rings.{Letter, blank, RingInv}
 use Rattle.traffic.specs.World.{World, world, Ev, final}
-use Rattle.traffic.specs.Play.{idle, Play, game, plays, ends}
+use Rattle.traffic.specs.Play.{idle, Play, game, plays, ends, logs}
 use Rattle.traffic.specs.Invariant.{Past, FetchInv, PostInv, wholeFrom, Inv, Setting, fetchJob, postJob, plainOf, playOf}
 use Rattle.traffic.specs.Traffic.{AllProper, met, polled, started, Start, boundsOf, siteOf, Promise, AtStart, EveryRun}
 use Rattle.traffic.proofs.SetupLaws.{Picture, picture}
@@ -130,19 +130,17 @@ held g r m i j hist h from R k f l =
 
 -- a promise, from what holds of the whole run
 promised : (b : Beginning) (pool end : ℕ) (bs : Bounds) (St : Setting (siteOf b pool) end bs) → 1 ≤ bs .limit → (es : List Ev) (w : World) (x : Past) → Whole (siteOf b pool) end bs St es w x
-    → (l : Log) → Ran bs l (plainOf w x) → Promise (siteOf b pool) bs es w (playOf w x)
-promised b pool end bs St some es w x W l r =
+    → Ran bs nothing (plainOf w x) → Promise (siteOf b pool) bs es w (playOf w x)
+promised b pool end bs St some es w x W r =
     let g : Site = siteOf b pool in
     let f : World = final addressBits es w in
     let y : Past = W .past in
     let q = W .reaches in
-    let n = W .ran l r in
     record {
       moments = W .moments;
       each = W .each;
       same = W .same;
-      log = n .0;
-      good = subst (λ (s : Play). Good bs (n .0) (s .plain)) (sym q) (every-run-in-order bs some (n .0) (plainOf f y) (n .1));
+      good = subst (λ (s : Play). Good bs (logs bs (W .moments) es (playOf w x) nothing) (s .plain)) (sym q) (every-run-in-order bs some (logs bs (W .moments) es (playOf w x) nothing) (plainOf f y) (W .ran nothing r));
       account = ap (λ (s : Play). s .plain .account) q;
       unanswered = ap (λ (s : Play). s .plain .unanswered) q;
       owed = ap (λ (s : Play). s .plain .owed) q;
@@ -261,7 +259,7 @@ module _ (b : Beginning) (x : Pair) (ps : List Ev) (pool : ℕ) (St : Start b x 
         promise = λ es y.
             subst (λ (w : World). Promise (siteOf b pool) (boundsOf b x) es w (game (start (boundsOf b x)) idle idle (fetchJob [] (polled b x ps .port .fetcher)) (postJob (polls .text) (polled b x ps .port .poster)))) (sym is-started)
             (subst (λ (s : Plain). Promise (siteOf b pool) (boundsOf b x) es now (game s idle idle (fetchJob [] (polled b x ps .port .fetcher)) (postJob (polls .text) (polled b x ps .port .poster)))) plain-is
-            (promised b pool end (boundsOf b x) setting (St .some) es now first (whole (siteOf b pool) end (boundsOf b x) setting es y now first inv) nothing
+            (promised b pool end (boundsOf b x) setting (St .some) es now first (whole (siteOf b pool) end (boundsOf b x) setting es y now first inv)
             (subst (λ (s : Plain). Ran (boundsOf b x) nothing s) (sym plain-is) begin)));
       }
 

@@ -57,6 +57,22 @@ module _ (g : Site) (end : ℕ) (b : Bounds) (S′ : Setting g end b) (h : Host)
   F : AreaFacts (g .bits) (g .area) (g .pool) end
   F = S′ .facts
 
+  -- a call at which nothing is done leaves the log alone
+  not-logged : (e : Ev) (s : Rattle.traffic.specs.Play.Play) (l : Rattle.plain.specs.Log.Log) → Rattle.traffic.specs.Play.logged b later e s l ≡ l
+  not-logged (beginSend f t) s l = refl
+  not-logged Rattle.traffic.specs.World.stepSend s l = refl
+  not-logged beginTake s l = refl
+  not-logged Rattle.traffic.specs.World.stepTake s l = refl
+  not-logged beginFetch s l = refl
+  not-logged Rattle.traffic.specs.World.stepFetch s l = refl
+  not-logged (beginPost a t) s l = refl
+  not-logged Rattle.traffic.specs.World.stepPost s l = refl
+  not-logged (clearMark r) s l = refl
+  not-logged readSa s l = refl
+  not-logged (writeSa w) s l = refl
+  not-logged (showSa w) s l = refl
+  not-logged timeIsUp s l = refl
+
   -- nothing changes
   still : (e : Ev) (w : World) → Inv g end b w x → (d : Did) → d .next ≡ w
       → Rattle.traffic.specs.Play.play b later e (Rattle.traffic.specs.Invariant.playOf w x) ≡ Rattle.traffic.specs.Play.played (d .ans) (Rattle.traffic.specs.Invariant.playOf w x)
@@ -67,7 +83,8 @@ module _ (g : Site) (end : ℕ) (b : Bounds) (S′ : Setting g end b) (h : Host)
         past = x;
         inv = subst (λ (y : World). Inv g end b y x) (sym q) I;
         same = s ∙ ap (λ (y : World). Rattle.traffic.specs.Play.played (d .ans) (Rattle.traffic.specs.Invariant.playOf y x)) (sym q);
-        ran = λ l r. (l, subst (λ (y : World). Rattle.plain.specs.Log.Ran b l (Rattle.traffic.specs.Invariant.plainOf y x)) (sym q) r);
+        ran = λ l r. subst (λ (k : Rattle.plain.specs.Log.Log). Rattle.plain.specs.Log.Ran b k (Rattle.traffic.specs.Invariant.plainOf (d .next) x)) (sym (not-logged e (Rattle.traffic.specs.Invariant.playOf w x) l))
+            (subst (λ (y : World). Rattle.plain.specs.Log.Ran b l (Rattle.traffic.specs.Invariant.plainOf y x)) (sym q) r);
       }
 
   host-ready : (h′ : Host) → h′ .shake ≡ Finished → h′ .ready ≡ true → isReady h′ ≡ true
@@ -124,7 +141,7 @@ module _ (g : Site) (end : ℕ) (b : Bounds) (S′ : Setting g end b) (h : Host)
                   sum = I .sum;
                 };
             same = rw e;
-            ran = λ l r. (l, r);
+            ran = λ l r. r;
           }
 
   ---------------------------------------------------------------- beginning a take
@@ -163,7 +180,7 @@ module _ (g : Site) (end : ℕ) (b : Bounds) (S′ : Setting g end b) (h : Host)
               sum = I .sum;
             };
         same = refl;
-        ran = λ l r. (l, r);
+        ran = λ l r. r;
       }
 
   ---------------------------------------------------------------- beginning a fetch
@@ -205,7 +222,7 @@ module _ (g : Site) (end : ℕ) (b : Bounds) (S′ : Setting g end b) (h : Host)
               sum = I .sum;
             };
         same = refl;
-        ran = λ l r. (l, r);
+        ran = λ l r. r;
       }
 
   ---------------------------------------------------------------- beginning a post
@@ -265,7 +282,7 @@ module _ (g : Site) (end : ℕ) (b : Bounds) (S′ : Setting g end b) (h : Host)
                   sum = I .sum;
                 };
             same = rw (e, k);
-            ran = λ l r. (l, r);
+            ran = λ l r. r;
           }
 
   ---------------------------------------------------------------- indicators and SA
@@ -303,7 +320,7 @@ module _ (g : Site) (end : ℕ) (b : Bounds) (S′ : Setting g end b) (h : Host)
               sum = I .sum;
             };
         same = refl;
-        ran = λ l r. (l, r);
+        ran = λ l r. r;
       }
 
   sa-zero : (a : Area) (go : ℕ) → p .phase ≡ Running a go → saOf p ≡ 0

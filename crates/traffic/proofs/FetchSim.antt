@@ -157,7 +157,7 @@ module _ (g : Site) (end : ℕ) (b : Bounds) (S′ : Setting g end b) (h : Host)
   no-fetch : Inv g end b (world h (withFetcher p NoFetch) m) x → Sim g end b stepFetch (world h (withFetcher p NoFetch) m) x (byPort (world h (withFetcher p NoFetch) m) (fetchStep (g .bits) (withFetcher p NoFetch) m))
   no-fetch I =
       sim-of g end b stepFetch (world h (withFetcher p NoFetch) m) x (byPort (world h (withFetcher p NoFetch) m)) (fetch-idle (g .bits) p (g .area) (I .go) m (I .port-runs))
-      record { moment = later; past = x; inv = I; same = refl; ran = λ l r. (l, r) }
+      record { moment = later; past = x; inv = I; same = refl; ran = λ l r. r }
 
   high : (c : Cursor) → Inv g end b (world h (withFetcher p (Fetching S.High c)) m) x
       → Sim g end b stepFetch (world h (withFetcher p (Fetching S.High c)) m) x (byPort (world h (withFetcher p (Fetching S.High c)) m) (fetchStep (g .bits) (withFetcher p (Fetching S.High c)) m))
@@ -200,7 +200,7 @@ module _ (g : Site) (end : ℕ) (b : Bounds) (S′ : Setting g end b) (h : Host)
                   progress = (record { some = some; upper = rw (I .fetch .slot) (I .commands .highs (p .counts .fetch) (here (Fetching S.High c) I)) }, I .fetch .progress);
                 };
             same = refl;
-            ran = λ l r. (l, r);
+            ran = λ l r. r;
           }
 
   -- the letter that is being fetched
@@ -227,7 +227,7 @@ module _ (g : Site) (end : ℕ) (b : Bounds) (S′ : Setting g end b) (h : Host)
         inv = with-fetch (Fetching S.Low c) I (p .incoming) (Fetching S.Length (withEnvelope c e))
             record { slot = I .fetch .slot; progress = (I .fetch .progress .0, (I .fetch .progress .1, ap (λ (k : ℕ). envelopeAt (g .area) (g .pool) Command k) (sym (I .fetch .slot)))) };
         same = refl;
-        ran = λ l r. (l, r);
+        ran = λ l r. r;
       }
 
   len : (c : Cursor) → Inv g end b (world h (withFetcher p (Fetching S.Length c)) m) x
@@ -245,7 +245,7 @@ module _ (g : Site) (end : ℕ) (b : Bounds) (S′ : Setting g end b) (h : Host)
         inv = with-fetch (Fetching S.Length c) I (p .incoming) (Fetching S.Header (withSize c v))
             record { slot = I .fetch .slot; progress = (P .0, (P .1 .0, (P .1 .1, L .len))) };
         same = refl;
-        ran = λ l r. (l, r);
+        ran = λ l r. r;
       }
 
   -- text word k next, or the release
@@ -264,7 +264,7 @@ module _ (g : Site) (end : ℕ) (b : Bounds) (S′ : Setting g end b) (h : Host)
               past = x;
               inv = with-fetch (Fetching s c) I room (Fetching S.Text (withAt c k)) record { slot = I .fetch .slot; progress = (fo, (gt, (en, (si, rw (← si) more)))) };
               same = refl;
-              ran = λ l r. (l, r);
+              ran = λ l r. r;
             }
         | inr none ↦
             sim-of g end b stepFetch (world h (withFetcher p (Fetching s c)) m) x (byPort (world h (withFetcher p (Fetching s c)) m))
@@ -274,7 +274,7 @@ module _ (g : Site) (end : ℕ) (b : Bounds) (S′ : Setting g end b) (h : Host)
               past = x;
               inv = with-fetch (Fetching s c) I room (Fetching S.Release c) record { slot = I .fetch .slot; progress = (fo, (got-all room (nextCommand x .text) k sh (rw (← si) none) gt, si)) };
               same = refl;
-              ran = λ l r. (l, r);
+              ran = λ l r. r;
             }
       ]
 
@@ -497,7 +497,7 @@ module _ (g : Site) (end : ℕ) (b : Bounds) (S′ : Setting g end b) (h : Host)
             past = x;
             inv = with-fetch (FetchTail E.Test c) I (p .incoming) (FetchTail E.Mark c) record { slot = I .fetch .slot; size = I .fetch .size; text = I .fetch .text };
             same = refl;
-            ran = λ l r. (l, r);
+            ran = λ l r. r;
           }
       by false e =
           sim-of g end b stepFetch w x (byPort w) (step ∙ test-closes c m word e)
@@ -506,7 +506,7 @@ module _ (g : Site) (end : ℕ) (b : Bounds) (S′ : Setting g end b) (h : Host)
             past = x;
             inv = with-fetch (FetchTail E.Test c) I (p .incoming) NoFetch tt;
             same = rw (I .fetch .size, I .fetch .text);
-            ran = λ l r. (l, r);
+            ran = λ l r. r;
           }
 
   mark : (c : Cursor) → Inv g end b (world h (withFetcher p (FetchTail E.Mark c)) m) x
@@ -542,7 +542,7 @@ module _ (g : Site) (end : ℕ) (b : Bounds) (S′ : Setting g end b) (h : Host)
               sum = I .sum;
             };
         same = rw (I .fetch .size, I .fetch .text);
-        ran = λ l r. (l, r);
+        ran = λ l r. r;
       }
 
   -- every stage

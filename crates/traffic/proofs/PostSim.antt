@@ -27,7 +27,7 @@ use Rattle.area.specs.declared.Ring.the-variants.{Command, Response}
 use Rattle.layout.specs.Facts.{rings, rings′, slots-apart, AreaFacts}
 use Rattle.layout.proofs.Rings.{slots-some, lt-or-ge, same-or-not, every-layout}
 use Rattle.plain.specs.Plain.{Entry, entry, Bounds, Plain}
-use Rattle.plain.specs.Log.{Op, posts, Allowed, Log, Ran, creditsIn}
+use Rattle.plain.specs.Log.{Op, posts, does, noted, Allowed, Log, Ran, creditsIn}
 use Rattle.plain.proofs.InOrder.{credits-more}
 use Rattle.port.specs.State as PortState
 use Rattle.port.specs.State.{with-memory, withPoster, withCounts, withHigh, withEnvelope, withAt}
@@ -196,7 +196,7 @@ module _ (g : Site) (end : ℕ) (b : Bounds) (S′ : Setting g end b) (h : Host)
   no-post : Inv g end b (world h (withPoster p NoPost) m) x → Sim g end b stepPost (world h (withPoster p NoPost) m) x (byPort (world h (withPoster p NoPost) m) (postStep (g .bits) (withPoster p NoPost) m))
   no-post I =
       sim-of g end b stepPost (world h (withPoster p NoPost) m) x (byPort (world h (withPoster p NoPost) m)) (post-idle (g .bits) p (g .area) (I .go) m (I .port-runs))
-      record { moment = later; past = x; inv = I; same = refl; ran = λ l r. (l, r) }
+      record { moment = later; past = x; inv = I; same = refl; ran = λ l r. r }
 
   -- an answer that is asked for has an open command
   allowed : (s : Stage) (c : Cursor) (I : Inv g end b (world h (withPoster p (Posting s c)) m) x) → Allowed (posts (c .answers) (x .posting)) (plainOf (world h (withPoster p (Posting s c)) m) x)
@@ -252,7 +252,7 @@ module _ (g : Site) (end : ℕ) (b : Bounds) (S′ : Setting g end b) (h : Host)
                   progress = (room, rw (I .post .slot) (I .responses .highs (p .counts .post) (here (Posting S.High c) I)));
                 };
             same = refl;
-            ran = λ l r. (l, r);
+            ran = λ l r. r;
           }
 
   low : (c : Cursor) → Inv g end b (world h (withPoster p (Posting S.Low c)) m) x
@@ -283,7 +283,7 @@ module _ (g : Site) (end : ℕ) (b : Bounds) (S′ : Setting g end b) (h : Host)
               progress = (I .post .progress .0, (I .post .progress .1, ap (λ (y : ℕ). envelopeAt (g .area) (g .pool) Response y) (sym (I .post .slot))));
             };
         same = refl;
-        ran = λ l r. (l, r);
+        ran = λ l r. r;
       }
 
   len : (c : Cursor) → Inv g end b (world h (withPoster p (Posting S.Length c)) m) x
@@ -309,7 +309,7 @@ module _ (g : Site) (end : ℕ) (b : Bounds) (S′ : Setting g end b) (h : Host)
               progress = (P .0, (P .1 .0, (P .1 .1, rw (I .post .slot) (put-len g end F m (I .size) Response i at (x .posting) (I .post .short) (c .size) (I .post .size)))));
             };
         same = refl;
-        ran = λ l r. (l, r);
+        ran = λ l r. r;
       }
 
   -- text word k next, or the release
@@ -337,7 +337,7 @@ module _ (g : Site) (end : ℕ) (b : Bounds) (S′ : Setting g end b) (h : Host)
                     progress = (room, (up, (en, (subst (λ (y : ℕ). Written (view g m′) Response (c .slot) (x .posting) y k) (sym (credits-are (withPoster p (Posting S.Text (withAt c k))) (withAt c k))) (rw (I .post .slot) W), rw (← I .post .size) more))));
                   };
               same = refl;
-              ran = λ y r. (y, r);
+              ran = λ y r. r;
             }
         | inr none ↦
             sim-of g end b stepPost (world h (withPoster p (Posting s c)) m) x (byPort (world h (withPoster p (Posting s c)) m))
@@ -363,7 +363,7 @@ module _ (g : Site) (end : ℕ) (b : Bounds) (S′ : Setting g end b) (h : Host)
                     );
                   };
               same = refl;
-              ran = λ y r. (y, r);
+              ran = λ y r. r;
             }
       ]
     where
@@ -517,8 +517,7 @@ module _ (g : Site) (end : ℕ) (b : Bounds) (S′ : Setting g end b) (h : Host)
         w = world h (withPoster p (Posting S.Release c)) m
 
         logged : (l : Log) → Ran b l (plainOf w x)
-            → (k : Log)
-            × Ran b k
+            → Ran b (noted (posts (c .answers) (x .posting)) (does b (posts (c .answers) (x .posting)) (plainOf w x) .answer) l)
             (record {
               commands = drop (x .fetched) (x .sent);
               responses = drop (x .taken) (x .posted ++ (entry (x .posting) (carries c) ∷ []));
@@ -529,8 +528,7 @@ module _ (g : Site) (end : ℕ) (b : Bounds) (S′ : Setting g end b) (h : Host)
         logged l r =
             subst
             (λ (y : List Entry).
-            (k : Log)
-            × Ran b k
+            Ran b (noted (posts (c .answers) (x .posting)) (does b (posts (c .answers) (x .posting)) (plainOf w x) .answer) l)
             (record {
               commands = drop (x .fetched) (x .sent);
               responses = y;
@@ -597,10 +595,10 @@ module _ (g : Site) (end : ℕ) (b : Bounds) (S′ : Setting g end b) (h : Host)
       by : (o : Bool) → isSet owner word ≡ o → Sim g end b stepPost w x (byPort w (postStep (g .bits) (withPoster p (PostTail E.Test c)) m))
       by true e =
           sim-of g end b stepPost w x (byPort w) (step ∙ test-goes c m word e)
-          record { moment = later; past = x; inv = with-post (PostTail E.Test c) I (PostTail E.Mark c) (I .post); same = refl; ran = λ l r. (l, r) }
+          record { moment = later; past = x; inv = with-post (PostTail E.Test c) I (PostTail E.Mark c) (I .post); same = refl; ran = λ l r. r }
       by false e =
           sim-of g end b stepPost w x (byPort w) (step ∙ test-closes c m word e)
-          record { moment = now; past = x; inv = with-post (PostTail E.Test c) I NoPost tt; same = refl; ran = λ l r. (l, r) }
+          record { moment = now; past = x; inv = with-post (PostTail E.Test c) I NoPost tt; same = refl; ran = λ l r. r }
 
   mark : (c : Cursor) → Inv g end b (world h (withPoster p (PostTail E.Mark c)) m) x
       → Sim g end b stepPost (world h (withPoster p (PostTail E.Mark c)) m) x (byPort (world h (withPoster p (PostTail E.Mark c)) m) (postStep (g .bits) (withPoster p (PostTail E.Mark c)) m))
@@ -633,7 +631,7 @@ module _ (g : Site) (end : ℕ) (b : Bounds) (S′ : Setting g end b) (h : Host)
               sum = I .sum;
             };
         same = refl;
-        ran = λ l r. (l, r);
+        ran = λ l r. r;
       }
 
   -- every stage

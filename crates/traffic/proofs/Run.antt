@@ -12,7 +12,7 @@ use Rattle.host.specs.State as HostState
 use Rattle.host.specs.declared.state.Host.{Host}
 use Rattle.traffic.specs.Places.{Site}
 use Rattle.traffic.specs.World.{World, world, Ev, beginSend, stepSend, beginTake, stepTake, beginFetch, stepFetch, beginPost, stepPost, clearMark, readSa, writeSa, showSa, timeIsUp, Proper, Ans, Did, act, answers, final}
-use Rattle.traffic.specs.Play.{Moment, Play, Played, play, played, plays, ends}
+use Rattle.traffic.specs.Play.{Moment, Play, Played, play, played, plays, ends, logged, logs}
 use Rattle.traffic.specs.Invariant.{Past, Inv, Setting, plainOf, playOf}
 use Rattle.traffic.specs.Traffic.{AllProper}
 use Rattle.traffic.proofs.Sim.{Sim}
@@ -47,10 +47,10 @@ module _ (g : Site) (end : ℕ) (b : Bounds) (S : Setting g end b) where
     pub inv : Inv g end b (final (g .bits) es w) past
     pub same : plays b moments es (playOf w x) ≡ answers (g .bits) es w
     pub reaches : ends b moments es (playOf w x) ≡ playOf (final (g .bits) es w) past
-    pub ran : (l : Log) → Ran b l (plainOf w x) → (k : Log) × Ran b k (plainOf (final (g .bits) es w) past)
+    pub ran : (l : Log) → Ran b l (plainOf w x) → Ran b (logs b moments es (playOf w x) l) (plainOf (final (g .bits) es w) past)
 
   pub whole : (es : List Ev) → AllProper es → (w : World) (x : Past) → Inv g end b w x → Whole es w x
-  whole [] y w x I = record { moments = []; each = refl; past = x; inv = I; same = refl; reaches = refl; ran = λ l r. (l, r) }
+  whole [] y w x I = record { moments = []; each = refl; past = x; inv = I; same = refl; reaches = refl; ran = λ l r. r }
   whole (e ∷ es) y w x I =
       let s = sim e (y .0) w x I in
       let r = whole es (y .1) (act (g .bits) e w .next) (s .past) (s .inv) in
@@ -61,5 +61,7 @@ module _ (g : Site) (end : ℕ) (b : Bounds) (S : Setting g end b) where
         inv = r .inv;
         same = ap₂ (λ (a : Ans) (l : List Ans). a ∷ l) (ap (λ (d : Played). d .ans) (s .same)) (ap (λ (d : Played). plays b (r .moments) es (d .next)) (s .same) ∙ r .same);
         reaches = ap (λ (d : Played). ends b (r .moments) es (d .next)) (s .same) ∙ r .reaches;
-        ran = λ l q. r .ran (s .ran l q .0) (s .ran l q .1);
+        ran = λ l q.
+            subst (λ (d : Played). Ran b (logs b (r .moments) es (d .next) (logged b (s .moment) e (playOf w x) l)) (plainOf (final (g .bits) (e ∷ es) w) (r .past))) (sym (s .same))
+            (r .ran (logged b (s .moment) e (playOf w x) l) (s .ran l q));
       }

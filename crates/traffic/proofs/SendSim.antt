@@ -22,7 +22,7 @@ use Rattle.area.specs.declared.Ring.the-variants.{Command, Response}
 use Rattle.layout.specs.Facts.{rings, rings′, slots-apart, AreaFacts}
 use Rattle.layout.proofs.Rings.{slots-some, lt-or-ge, same-or-not}
 use Rattle.plain.specs.Plain.{Entry, entry, Bounds}
-use Rattle.plain.specs.Log.{Op, sends, Log, Ran, then, creditsIn}
+use Rattle.plain.specs.Log.{Op, sends, does, noted, Log, Ran, creditsIn}
 use Rattle.port.specs.declared.state.Port.{Port}
 use Rattle.host.specs.State as HostState
 use Rattle.host.specs.State.{isReady, with-memory, withSender, withHigh, withAt}
@@ -238,12 +238,12 @@ module _ (g : Site) (end : ℕ) (b : Bounds) (S : Setting g end b) (h : Host) (p
       → Sim g end b stepSend (world (withSender h snd) p m) x d
   going-sim snd snd′ t m′ d j j′ e I′ =
       subst (λ (y : Did). Sim g end b stepSend (world (withSender h snd) p m) x y) (sym e)
-      record { moment = later; past = x; inv = I′; same = rw (j, j′); ran = λ l r. (l, r) }
+      record { moment = later; past = x; inv = I′; same = rw (j, j′); ran = λ l r. r }
 
   no-send : Inv g end b (world (withSender h NoSend) p m) x → Sim g end b stepSend (world (withSender h NoSend) p m) x (byHost (world (withSender h NoSend) p m) (sendStep (g .bits) (withSender h NoSend) m))
   no-send I =
       sim-of g end b stepSend (world (withSender h NoSend) p m) x (byHost (world (withSender h NoSend) p m)) (send-idle (g .bits) h m (ready NoSend I))
-      record { moment = later; past = x; inv = I; same = refl; ran = λ l r. (l, r) }
+      record { moment = later; past = x; inv = I; same = refl; ran = λ l r. r }
 
   -- the own slot's high word is read
   look : (c : Cursor) → Inv g end b (world (withSender h (Sending H.Look c)) p m) x
@@ -314,7 +314,7 @@ module _ (g : Site) (end : ℕ) (b : Bounds) (S : Setting g end b) (h : Host) (p
                   progress = record { credit = omega (arith, z); room = room };
                 };
             same = refl;
-            ran = λ l r. (l, r);
+            ran = λ l r. r;
           }
 
   -- the envelope is written: length, header, text
@@ -338,7 +338,7 @@ module _ (g : Site) (end : ℕ) (b : Bounds) (S : Setting g end b) (h : Host) (p
               progress = (I .send .progress, rw (I .send .slot) (put-len g end F m (I .size) Command (h .counts .send) (here (Sending H.Length c) I) (x .sending) (I .send .short) (c .size) (I .send .size)));
             };
         same = refl;
-        ran = λ l r. (l, r);
+        ran = λ l r. r;
       }
 
   -- text word k next, or the low word
@@ -366,7 +366,7 @@ module _ (g : Site) (end : ℕ) (b : Bounds) (S : Setting g end b) (h : Host) (p
                     progress = (M, (rw (I .send .slot) W, rw (← I .send .size) more));
                   };
               same = refl;
-              ran = λ q r. (q, r);
+              ran = λ q r. r;
             }
         | inr none ↦
             sim-of g end b stepSend (world (withSender h (Sending s c)) p m) x (byHost (world (withSender h (Sending s c)) p m))
@@ -384,7 +384,7 @@ module _ (g : Site) (end : ℕ) (b : Bounds) (S : Setting g end b) (h : Host) (p
                     progress = (M, rw (I .send .slot) (subst (λ (y : ℕ). Written (view g (withWord (g .bits) m (addr g (envWord Command (h .counts .send) o)) v)) Command (h .counts .send) (x .sending) 0 y) (all none) W));
                   };
               same = refl;
-              ran = λ q r. (q, r);
+              ran = λ q r. r;
             }
       ]
     where
@@ -443,7 +443,7 @@ module _ (g : Site) (end : ℕ) (b : Bounds) (S : Setting g end b) (h : Host) (p
             }
             (I .sum);
         same = refl;
-        ran = λ l r. (l, r);
+        ran = λ l r. r;
       }
 
   -- the high word: the command is given
@@ -504,7 +504,7 @@ module _ (g : Site) (end : ℕ) (b : Bounds) (S : Setting g end b) (h : Host) (p
             tt
             (rw more (simp length-append (omega (arith, I .sum, M .credit))));
         same = rw (done-it, more);
-        ran = λ l r. subst (λ (y : List Entry). (k : Log) × Ran b k (record { commands = y; responses = drop (x .taken) (x .posted); account = h .counts .account - 1; unanswered = p .counts .unanswered; owed = p .counts .owed })) (sym more)
+        ran = λ l r. subst (λ (y : List Entry). Ran b (noted (sends (x .sending)) (does b (sends (x .sending)) (plainOf w x) .answer) l) (record { commands = y; responses = drop (x .taken) (x .posted); account = h .counts .account - 1; unanswered = p .counts .unanswered; owed = p .counts .owed })) (sym more)
             (ran-does b (plainOf w x) (sends (x .sending)) tt _ done-it l r);
       }
     where

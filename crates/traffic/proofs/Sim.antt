@@ -6,7 +6,7 @@ use Rattle.plain.specs.Plain.{Bounds, Plain, Result}
 use Rattle.plain.specs.Log.{Op, Allowed, does, noted, Log, Ran, then}
 use Rattle.traffic.specs.Places.{Site}
 use Rattle.traffic.specs.World.{World, Ev, Did}
-use Rattle.traffic.specs.Play.{Moment, play, played}
+use Rattle.traffic.specs.Play.{Moment, play, played, logged}
 use Rattle.traffic.specs.Invariant.{Past, Inv, plainOf, playOf}
 
 pub record Sim (g : Site) (end : ℕ) (b : Bounds) (e : Ev) (w : World) (x : Past) (d : Did) : Type 0 where
@@ -14,7 +14,7 @@ pub record Sim (g : Site) (end : ℕ) (b : Bounds) (e : Ev) (w : World) (x : Pas
   pub past : Past
   pub inv : Inv g end b (d .next) past
   pub same : play b moment e (playOf w x) ≡ played (d .ans) (playOf (d .next) past)
-  pub ran : (l : Log) → Ran b l (plainOf w x) → (k : Log) × Ran b k (plainOf (d .next) past)
+  pub ran : (l : Log) → Ran b l (plainOf w x) → Ran b (logged b moment e (playOf w x) l) (plainOf (d .next) past)
 
 abbrev pub later : Moment
 later = record { acts = false; tells = false }
@@ -27,6 +27,5 @@ pub sim-of : (g : Site) (end : ℕ) (b : Bounds) (e : Ev) (w : World) (x : Past)
 sim-of g end b e w x f q s = subst (λ y. Sim g end b e w x (f y)) (sym q) s
 
 -- an operation done is one more in the log
-pub ran-does : (b : Bounds) (x : Plain) (o : Op) → Allowed o x → (r : Result) → does b o x ≡ r → (l : Log) → Ran b l x → (k : Log) × Ran b k (r .after)
-ran-does b x o a r e l q =
-    (noted o (does b o x .answer) l, subst (λ (y : Result). Ran b (noted o (does b o x .answer) l) (y .after)) e (then o a q))
+pub ran-does : (b : Bounds) (x : Plain) (o : Op) → Allowed o x → (r : Result) → does b o x ≡ r → (l : Log) → Ran b l x → Ran b (noted o (does b o x .answer) l) (r .after)
+ran-does b x o a r e l q = subst (λ (y : Result). Ran b (noted o (does b o x .answer) l) (y .after)) e (then o a q)

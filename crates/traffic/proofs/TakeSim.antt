@@ -25,7 +25,7 @@ use Rattle.area.specs.declared.Ring.the-variants.{Command, Response}
 use Rattle.layout.specs.Facts.{rings, rings′, slots-apart, AreaFacts}
 use Rattle.layout.proofs.Rings.{slots-some, lt-or-ge, same-or-not}
 use Rattle.plain.specs.Plain.{Entry, entry, Bounds, Plain}
-use Rattle.plain.specs.Log.{Op, takes, Log, Ran, creditsIn}
+use Rattle.plain.specs.Log.{Op, takes, does, noted, Log, Ran, creditsIn}
 use Rattle.port.specs.declared.state.Port.{Port}
 use Rattle.host.specs.State as HostState
 use Rattle.host.specs.State.{isReady, with-memory, withTaker, withIncoming, withHigh, withSize, withAt, withCredits}
@@ -147,7 +147,7 @@ module _ (g : Site) (end : ℕ) (b : Bounds) (S : Setting g end b) (h : Host) (p
   no-take : Inv g end b (world (withTaker h NoTake) p m) x → Sim g end b stepTake (world (withTaker h NoTake) p m) x (byHost (world (withTaker h NoTake) p m) (takeStep (g .bits) (withTaker h NoTake) m))
   no-take I =
       sim-of g end b stepTake (world (withTaker h NoTake) p m) x (byHost (world (withTaker h NoTake) p m)) (take-idle (g .bits) h m (ready NoTake I))
-      record { moment = later; past = x; inv = I; same = refl; ran = λ l r. (l, r) }
+      record { moment = later; past = x; inv = I; same = refl; ran = λ l r. r }
 
   look : (c : Cursor) → Inv g end b (world (withTaker h (Taking T.Look c)) p m) x
       → Sim g end b stepTake (world (withTaker h (Taking T.Look c)) p m) x (byHost (world (withTaker h (Taking T.Look c)) p m) (takeStep (g .bits) (withTaker h (Taking T.Look c)) m))
@@ -190,7 +190,7 @@ module _ (g : Site) (end : ℕ) (b : Bounds) (S : Setting g end b) (h : Host) (p
                   progress = (record { some = some; upper = rw (I .take .slot) (I .responses .highs (h .counts .take) (here (Taking T.Look c) I)) }, I .take .progress);
                 };
             same = refl;
-            ran = λ l r. (l, r);
+            ran = λ l r. r;
           }
 
   -- the letter that is being taken
@@ -213,7 +213,7 @@ module _ (g : Site) (end : ℕ) (b : Bounds) (S : Setting g end b) (h : Host) (p
         inv = with-take (Taking T.Length c) I (h .incoming) (Taking T.Header (withSize c v)) (I .responses)
             record { slot = I .take .slot; progress = (I .take .progress .0, (I .take .progress .1, L .len)) };
         same = refl;
-        ran = λ l r. (l, r);
+        ran = λ l r. r;
       }
 
   -- text word k next, or the refill
@@ -233,7 +233,7 @@ module _ (g : Site) (end : ℕ) (b : Bounds) (S : Setting g end b) (h : Host) (p
               inv = with-take (Taking s c) I room (Taking T.Text (withAt d k)) (subst (λ (y : ℕ). RingInv g (view g m) Response (p .counts .post) (h .counts .take) (x .posted) (x .taken) y) wf (I .responses))
                   record { slot = sl; progress = (fo, (go, (si, (cr, rw (← si) more)))) };
               same = refl;
-              ran = λ l r. (l, r);
+              ran = λ l r. r;
             }
         | inr none ↦
             sim-of g end b stepTake (world (withTaker h (Taking s c)) p m) x (byHost (world (withTaker h (Taking s c)) p m))
@@ -244,7 +244,7 @@ module _ (g : Site) (end : ℕ) (b : Bounds) (S : Setting g end b) (h : Host) (p
               inv = with-take (Taking s c) I room (Taking T.Refill d) (subst (λ (y : ℕ). RingInv g (view g m) Response (p .counts .post) (h .counts .take) (x .posted) (x .taken) y) wf (I .responses))
                   record { slot = sl; progress = (fo, (got-all room (nextResponse x .text) k sh (rw (← si) none) go, (si, cr))) };
               same = refl;
-              ran = λ l r. (l, r);
+              ran = λ l r. r;
             }
       ]
 
@@ -328,7 +328,7 @@ module _ (g : Site) (end : ℕ) (b : Bounds) (S : Setting g end b) (h : Host) (p
               sum = I .sum;
             };
         same = refl;
-        ran = λ l r. (l, r);
+        ran = λ l r. r;
       }
     where
       some′ : x .taken < length (x .posted)
@@ -423,7 +423,7 @@ module _ (g : Site) (end : ℕ) (b : Bounds) (S : Setting g end b) (h : Host) (p
             };
         same = rw (done-it, P .1 .0, P .1 .1 .0, cr);
         ran = λ l r.
-            subst (λ (y : ℕ). (k : Log) × Ran b k (record { commands = drop (x .fetched) (x .sent); responses = drop (suc (x .taken)) (x .posted); account = h .counts .account + y; unanswered = p .counts .unanswered; owed = p .counts .owed })) (sym cr)
+            subst (λ (y : ℕ). Ran b (noted takes (does b takes (plainOf w x) .answer) l) (record { commands = drop (x .fetched) (x .sent); responses = drop (suc (x .taken)) (x .posted); account = h .counts .account + y; unanswered = p .counts .unanswered; owed = p .counts .owed })) (sym cr)
             (ran-does b (plainOf w x) takes tt _ done-it l r);
       }
     where

@@ -10,7 +10,7 @@ use Rattle.texts.specs.Texts.{zeros, padded}
 use Rattle.answers.specs.Told as Told
 use Rattle.host.specs.Shake as Shake
 use Rattle.plain.specs.Plain.{Bounds, Plain, Closed, done, got, refused, Result}
-use Rattle.plain.specs.Log.{Op, sends, fetches, posts, takes, does}
+use Rattle.plain.specs.Log.{Op, sends, fetches, posts, takes, does, Log, noted}
 use Rattle.traffic.specs.World.{Ev, beginSend, stepSend, beginTake, stepTake, beginFetch, stepFetch, beginPost, stepPost, clearMark, readSa, writeSa, showSa, timeIsUp, Heard, Ans, call, word, asked}
 
 -- A side: idle, an operation asked for and not yet done, or done and not yet told.
@@ -116,3 +116,30 @@ abbrev pub ends : Bounds → List Moment → List Ev → Play → Play
 ends b [] es s = s
 ends b (m ∷ ms) [] s = s
 ends b (m ∷ ms) (e ∷ es) s = ends b ms es (play b m e s .next)
+
+-- What the plain machine has done, noted as it does it.
+abbrev pub loggedJob : Bounds → Bool → Job → Plain → Log → Log
+loggedJob b false j x l = l
+loggedJob b true idle x l = l
+loggedJob b true (waiting o) x l = noted o (does b o x .answer) l
+loggedJob b true (over c) x l = l
+
+abbrev pub logged : Bounds → Moment → Ev → Play → Log → Log
+logged b m (beginSend f t) s l = l
+logged b m stepSend s l = loggedJob b (m .acts) (s .sender) (s .plain) l
+logged b m beginTake s l = l
+logged b m stepTake s l = loggedJob b (m .acts) (s .taker) (s .plain) l
+logged b m beginFetch s l = l
+logged b m stepFetch s l = loggedJob b (m .acts) (s .fetcher) (s .plain) l
+logged b m (beginPost a t) s l = l
+logged b m stepPost s l = loggedJob b (m .acts) (s .poster) (s .plain) l
+logged b m (clearMark r) s l = l
+logged b m readSa s l = l
+logged b m (writeSa w) s l = l
+logged b m (showSa w) s l = l
+logged b m timeIsUp s l = l
+
+abbrev pub logs : Bounds → List Moment → List Ev → Play → Log → Log
+logs b [] es s l = l
+logs b (m ∷ ms) [] s l = l
+logs b (m ∷ ms) (e ∷ es) s l = logs b ms es (play b m e s .next) (logged b m e s l)

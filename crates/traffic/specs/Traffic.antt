@@ -11,7 +11,7 @@ use Rattle.area.specs.Layout.{slots, areaLies}
 use Rattle.area.specs.declared.Area.{Area}
 use Rattle.area.specs.declared.Ring.the-variants.{Command, Response}
 use Rattle.plain.specs.Plain.{Entry, Bounds, Plain, start}
-use Rattle.plain.specs.Log.{Log, Good}
+use Rattle.plain.specs.Log.{nothing, Good}
 use Rattle.port.specs.Shake.{saOf}
 use Rattle.host.specs.Shake.{accepts, areaOf}
 use Rattle.host.specs.Setup.{setUpBy}
@@ -21,7 +21,7 @@ use Rattle.meeting.specs.Meeting.{Pair, exchanges, opened}
 use Rattle.traffic.specs.Places.{Site, view}
 use Rattle.traffic.specs.Rings.{Letter, blank}
 use Rattle.traffic.specs.World.{World, world, Ev, beginSend, stepSend, beginTake, stepTake, beginFetch, stepFetch, beginPost, stepPost, clearMark, readSa, writeSa, showSa, timeIsUp, Proper, answers, final}
-use Rattle.traffic.specs.Play.{Job, idle, Moment, Play, game, plays, ends}
+use Rattle.traffic.specs.Play.{Job, idle, Moment, Play, game, plays, ends, logs}
 use Rattle.traffic.specs.Invariant.{fetchJob, postJob, wholeFrom}
 
 -- Every text of the calls is bytes.
@@ -84,9 +84,8 @@ pub record Promise (g : Site) (b : Bounds) (es : List Ev) (w : World) (s : Play)
   pub moments : List Moment
   pub each : length moments ≡ length es
   pub same : plays b moments es s ≡ answers addressBits es w
-  -- order, each once, the queues' bounds, and the four that sum to the limit, from the history alone
-  pub log : Log
-  pub good : Good b log (ends b moments es s .plain)
+  -- what it did at those moments keeps the order, each once, the queues' bounds, and the four that sum to the limit
+  pub good : Good b (logs b moments es s nothing) (ends b moments es s .plain)
   -- what is stored agrees: account, commands unanswered, credits still to grant
   pub account : ends b moments es s .plain .account ≡ final addressBits es w .host .counts .account
   pub unanswered : ends b moments es s .plain .unanswered ≡ final addressBits es w .port .counts .unanswered
