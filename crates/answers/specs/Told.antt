@@ -1,7 +1,7 @@
 -- What a call answers, in document 01's numbers and values: its refusal number, its fatal code, the length, the 60 bytes,
 -- and whether it reports an interrupt. `toldOf` gives them for each case of the enum that the code answers with.
 use Prim.Native.Nat.{ℕ}
-use mathlib.Core.Bool.{Bool, true, false}
+use mathlib.Core.Bool.{Bool, false}
 use mathlib.Core.List.{List}
 use Rattle.texts.specs.Texts.{zeros}
 use Rattle.answers.specs.declared.Refusal.{Refusal}

@@ -11,7 +11,7 @@ use Rattle.answers.specs.declared.Fatal.the-variants.{InvalidConnection}
 use Rattle.area.specs.Layout.{base, slotAt}
 use Rattle.area.specs.declared.Area.{Area}
 use Rattle.area.specs.declared.Ring.the-variants.{Command}
-use Rattle.port.specs.State.{fresh, fail, startOf}
+use Rattle.port.specs.State.{fail, startOf}
 use Rattle.port.specs.Shake.{created, saOf, saWritten}
 use Rattle.port.specs.Post.{creditsOf, posted}
 use Rattle.port.specs.declared.state.Made.{Made}

@@ -1,6 +1,6 @@
 -- "Send: read own slot's high word; write length; header word (0); text words; low word; high word with O=1 and the asked F."
 use Prim.Native.Nat.{ℕ, _+_, _*_, _-_}
-use mathlib.Core.Bool.{Bool, true, false, cond}
+use mathlib.Core.Bool.{true, false, cond}
 use mathlib.Core.List.{List}
 use lib.Dec.{leb, ltb, eqb}
 use lib.ListN.{length}
@@ -17,7 +17,6 @@ use Rattle.answers.specs.Told.{told, refusal, done}
 use Rattle.area.specs.Layout.{slotAt, nextOf, envelopeAt}
 use Rattle.area.specs.declared.Ring.the-variants.{Command}
 use Rattle.host.specs.State.{Next, Outcome, with-memory, isReady, withSender, withOutgoing, withCounts, onward, startOf, withHigh, withAt}
-use Rattle.host.specs.declared.state.Counts.{Counts}
 use Rattle.host.specs.declared.state.Cursor.{Cursor}
 use Rattle.host.specs.declared.state.Asked.{Asked}
 use Rattle.host.specs.declared.state.SendStage.{SendStage}

@@ -6,7 +6,7 @@ use Rattle.memory.specs.Memory.{Memory, usable}
 use Rattle.memory.specs.OneWord.{found, left}
 use Rattle.memory.specs.declared.Word.{Word}
 use Rattle.memory.specs.declared.Word.the-variants.{Value, Outside}
-use Rattle.answers.specs.Told.{Told, told, refusal, done}
+use Rattle.answers.specs.Told.{told, refusal, done}
 use Rattle.area.specs.Layout.{indicator}
 use Rattle.area.specs.Setup.{fits, setUp}
 use Rattle.area.specs.declared.Ring.{Ring}

@@ -5,7 +5,6 @@ use lib.Dec.{leb, ltb, eqb}
 use Rattle.words.specs.Fields.{of, isSet, er, stepBits, echo, fatalCode, upper, lower}
 use Rattle.words.specs.Words.{firstWord, secondWord, thirdWord, goWord}
 use Rattle.answers.specs.Told.{refusalNumber}
-use Rattle.answers.specs.declared.Refusal.the-variants.{BadSetting}
 use Rattle.area.specs.declared.Area.{Area}
 use Rattle.host.specs.State.{withShake, fresh}
 use Rattle.host.specs.declared.state.Beginning.{Beginning}

@@ -1,6 +1,6 @@
 -- "Take: read high word; length; header; text words; write 60 as length; write high word with O=1, F=1."
 use Prim.Native.Nat.{ℕ, _+_, _*_, min}
-use mathlib.Core.Bool.{Bool, true, false, cond}
+use mathlib.Core.Bool.{true, false, cond}
 use lib.Dec.{leb, ltb}
 use Rattle.words.specs.Fields.{of, isSet, owner, connection, messageType, credits}
 use Rattle.words.specs.Words.{highWord}
@@ -18,7 +18,6 @@ use Rattle.rules.specs.declared.Fault.the-variants.{Sound, Unsound}
 use Rattle.area.specs.Layout.{slotAt, nextOf, envelopeAt}
 use Rattle.area.specs.declared.Ring.the-variants.{Response}
 use Rattle.host.specs.State.{Next, Outcome, with-memory, isReady, withTaker, withIncoming, withCounts, onward, startOf, withHigh, withSize, withAt, withCredits}
-use Rattle.host.specs.declared.state.Counts.{Counts}
 use Rattle.host.specs.declared.state.Cursor.{Cursor}
 use Rattle.host.specs.declared.state.TakeStage.{TakeStage}
 use Rattle.host.specs.declared.state.TakeStage.the-variants.{Look, Length, Header, Text, Refill, Give}

@@ -1,14 +1,14 @@
 -- Ring and layout facts from the definitions: powers of two for the rings, and one number for each slot of both. Assumes nothing.
-use Prim.Native.Nat.{ℕ, _+_, _*_, _-_, _/_, _%_, _^_, _<_, _≤_}
+use Prim.Native.Nat.{ℕ, _+_, _*_, _-_, _%_, _<_, _≤_}
 use mathlib.Core.Path.{_≡_, refl, sym, ap, _∙_}
-use mathlib.Core.Bool.{Bool, true, false, cond, _&&_, _||_, false≢true, true≢false}
+use mathlib.Core.Bool.{Bool, true, false, _&&_, _||_, false≢true}
 use mathlib.Core.Logic.{_⊎_, inl, inr}
 use native.Mathlib.Omega.{arith}
 use native.Mathlib.Nat.{mod-lt, mod-eq-of-lt, mod-self, mul-suc, mul-le-mul-left}
-use lib.Dec.{leb, eqb, ltb, ltb→lt, nltb→le}
+use lib.Dec.{leb, eqb, ltb}
 use lib.Pow.{pow-pos, pow-mono}
-use borrow.Author.Tests.{leb-true, eqb-true, eqb-false, ltb-true, ltb-false, le-leb, eq-eqb, ne-eqb}
-use Rattle.words.specs.Fields.{of, commandExponent, responseExponent}
+use borrow.Author.Tests.{leb-true, eqb-true, eqb-false, ltb-true, ltb-false, le-leb, ne-eqb}
+use Rattle.words.specs.Fields.{of}
 use Rattle.area.specs.Layout.{exponent, slots, slotCount, base, numberOf, slotAt, ringsEnd, nextOf, beforeOf, alone, indicatorBack, indicator, envelopeAt}
 use Rattle.area.specs.Setup.{poolEnd, fits}
 use Rattle.area.specs.declared.Area.{Area}

@@ -1,9 +1,9 @@
 -- Ring and layout facts, shown once for every exponent, over the number of address bits.
-use Prim.Native.Nat.{ℕ, _+_, _*_, _-_, _%_, _^_, _<_, _≤_}
+use Prim.Native.Nat.{ℕ, _+_, _-_, _%_, _<_, _≤_}
 use mathlib.Core.Path.{_≡_}
-use mathlib.Core.Bool.{Bool, true, false}
+use mathlib.Core.Bool.{true, false}
 use mathlib.Core.Logic.{_⊎_}
-use Rattle.area.specs.Layout.{exponent, slots, slotCount, base, numberOf, slotAt, ringsEnd, nextOf, beforeOf, alone, indicatorBack, indicator, envelopeAt}
+use Rattle.area.specs.Layout.{exponent, slots, base, slotAt, ringsEnd, nextOf, beforeOf, alone, indicatorBack, indicator, envelopeAt}
 use Rattle.area.specs.Setup.{poolEnd, fits}
 use Rattle.area.specs.declared.Area.{Area}
 use Rattle.area.specs.declared.Ring.{Ring}

@@ -1,17 +1,16 @@
 -- The four exchanges, one after the other: each word shown is the one expected, with the right echo. Assumes nothing.
-use Prim.Native.Nat.{ℕ, _+_, _*_, _/_, _%_, _^_, _<_, _≤_}
-use mathlib.Core.Path.{_≡_, refl, sym, ap, _∙_}
-use mathlib.Core.Bool.{Bool, true, false, cond, _&&_, false≢true}
+use Prim.Native.Nat.{ℕ, _%_, _<_, _≤_}
+use mathlib.Core.Path.{_≡_, refl, ap, _∙_}
+use mathlib.Core.Bool.{Bool, true, false, _&&_, false≢true}
 use native.Mathlib.Omega.{arith}
 use lib.Dec.{leb, ltb, eqb}
 use borrow.Author.Tests.{leb-true, ltb-true, eqb-true, eq-eqb, ne-eqb}
-use Rattle.words.specs.Fields.{of, isSet, flag, er, stepBits, echo, one, wr, go, upper, lower, ie, vector, commandExponent, responseExponent}
+use Rattle.words.specs.Fields.{of, isSet, er, stepBits, echo, one, wr, upper, lower, ie, vector, commandExponent, responseExponent}
 use Rattle.words.specs.Words.{addressBits, step1Word, step2Word, step3Word, step4Word, firstWord, secondWord, thirdWord, goWord, addressOf}
 use Rattle.words.proofs.Laws.{flag-lt}
 use Rattle.memory.specs.Memory.{Memory}
-use Rattle.area.specs.Layout.{exponent, base, stepInterrupt, areaLies, areaCleared}
+use Rattle.area.specs.Layout.{base, areaLies, areaCleared}
 use Rattle.area.specs.declared.Area.{Area}
-use Rattle.area.specs.declared.Ring.the-variants.{Command, Response}
 use Rattle.port.specs.State as PortState
 use Rattle.port.specs.Shake.{saOf, firstHeard, saWritten}
 use Rattle.port.specs.declared.state.Made.{Made}
@@ -25,7 +24,7 @@ use Rattle.host.specs.declared.state.Shake.the-variants.{Expect, Finished}
 use Rattle.host.specs.declared.state.Step.the-variants.{One, Two, Three, Four}
 use Rattle.host.specs.declared.state.Beginning.{Beginning}
 use Rattle.host.specs.declared.state.Host.{Host}
-use Rattle.meeting.specs.Meeting.{Pair, pair, obeyed, opened, exchange, exchanges, running, Meets, EveryMeeting}
+use Rattle.meeting.specs.Meeting.{Pair, pair, opened, exchange, exchanges, running, EveryMeeting}
 
 -- what each word shown says to the host
 step1-er : (n q d : Bool) → isSet er (step1Word n q d) ≡ false

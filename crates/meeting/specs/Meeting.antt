@@ -1,12 +1,11 @@
 -- A host and a port that exchange words over one memory: the host is shown SA, and what it asks is done.
-use Prim.Native.Nat.{ℕ, zero, suc, _≤_}
+use Prim.Native.Nat.{ℕ, zero, suc}
 use mathlib.Core.Path.{_≡_}
-use mathlib.Core.Bool.{Bool, true}
-use Rattle.words.specs.Fields.{of, isSet, ie, vector, pi}
+use mathlib.Core.Bool.{true}
+use Rattle.words.specs.Fields.{of, isSet, ie, vector}
 use Rattle.words.specs.Words.{addressBits, goWord}
 use Rattle.memory.specs.Memory.{Memory}
 use Rattle.area.specs.Layout.{exponent, base, areaLies, areaCleared}
-use Rattle.area.specs.declared.Area.{Area}
 use Rattle.area.specs.declared.Ring.the-variants.{Command, Response}
 use Rattle.port.specs.State as PortState
 use Rattle.port.specs.Shake.{saOf, saWritten}

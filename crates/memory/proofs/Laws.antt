@@ -1,10 +1,10 @@
 -- Laws of host memory, over the number of address bits. A word that was written is read back, every other byte is as it was,
 -- and the length is kept. Assumes nothing.
-use Prim.Native.Nat.{ℕ, _+_, _*_, _-_, _/_, _%_, _^_, _<_, _≤_, min}
+use Prim.Native.Nat.{ℕ, _+_, _*_, _-_, _/_, _%_, _<_, _≤_}
 use mathlib.Core.Path.{_≡_, refl, sym, ap, ap₂, _∙_}
-use mathlib.Core.Bool.{Bool, true, false, cond, _&&_, false≢true}
+use mathlib.Core.Bool.{Bool, true, false, cond}
 use mathlib.Core.Logic.{_⊎_, inl, inr}
-use mathlib.Core.List.{List, [], _++_, append-nil}
+use mathlib.Core.List.{List, _++_, append-nil}
 use native.Mathlib.Omega.{arith}
 use lib.Dec.{leb}
 use lib.ListN.{length, getD, set, take, drop, replicate, length-set, length-drop, length-take, length-append, length-replicate, getD-replicate, List·getD-append}
@@ -12,7 +12,6 @@ use lib.Seq.{getD-set-same, getD-set-other, drop-length, drop-drop, length-take-
 use borrow.Author.Fill.{fill-more}
 use borrow.Author.Tests.{le-leb, lt-leb, leb-true}
 use Rattle.memory.specs.Memory.{Memory, usable, lies, inside, wordIn, wordAt, withWord, cleared}
-use Rattle.memory.specs.declared.Word.{Word}
 use Rattle.memory.specs.declared.Word.the-variants.{Value, Outside}
 
 -- usable memory

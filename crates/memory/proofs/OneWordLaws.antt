@@ -1,12 +1,12 @@
 -- "A step touches at most one word", as a fact of the definitions: what a touch leaves differs from before in one word at most,
 -- and what it finds depends on that word and on memory's length alone. Assumes nothing.
 use Prim.Native.Nat.{ℕ, _+_, _/_, _%_}
-use mathlib.Core.Path.{_≡_, refl, sym, ap, ap₂, _∙_}
-use mathlib.Core.Bool.{Bool, true, false, cond}
+use mathlib.Core.Path.{_≡_, refl, sym, ap, _∙_}
+use mathlib.Core.Bool.{Bool, true, false}
 use mathlib.Core.Logic.{inl, inr}
 use lib.Dec.{leb}
 use lib.ListN.{length, getD}
-use Rattle.memory.specs.Memory.{Memory, usable, inside, wordIn, wordAt, withWord}
+use Rattle.memory.specs.Memory.{Memory, usable, inside, wordAt, withWord}
 use Rattle.memory.specs.OneWord.{found, left, Touches, Same}
 use Rattle.memory.specs.declared.Word.{Word}
 use Rattle.memory.specs.declared.Word.the-variants.{Value, Outside}

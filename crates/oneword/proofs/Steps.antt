@@ -1,11 +1,10 @@
 -- Every step is one touch and what follows from the word found; so one law on touches serves all sides. Assumes nothing.
-use Prim.Native.Nat.{ℕ, _+_}
+use Prim.Native.Nat.{ℕ}
 use mathlib.Core.Path.{_≡_, refl, sym, ap, ap₂, _∙_}
 use mathlib.Core.Bool.{Bool, true, false, cond}
-use mathlib.Core.Logic.{_⊎_, inl, inr}
 use lib.ListN.{length, getD}
 use Rattle.memory.specs.Memory.{Memory, usable}
-use Rattle.memory.specs.OneWord.{Touches, Same, found, left}
+use Rattle.memory.specs.OneWord.{found, left}
 use Rattle.memory.proofs.OneWordLaws.{left-length, left-other, found-same, left-same}
 use Rattle.memory.specs.declared.Word.{Word}
 use Rattle.memory.specs.declared.Word.the-variants.{Value, Outside}
@@ -14,7 +13,6 @@ use Rattle.memory.specs.declared.Touch.the-variants.{Nothing}
 use Rattle.answers.specs.Told.{told, refusal, done}
 use Rattle.area.specs.Layout.{indicator}
 use Rattle.area.specs.declared.Area.{Area}
-use Rattle.area.specs.declared.Ring.{Ring}
 use Rattle.area.specs.declared.Ring.the-variants.{Command, Response}
 use Rattle.port.specs.State as PortState
 use Rattle.port.specs.Tail.{tailTouch, tailAfter}
@@ -36,7 +34,7 @@ use Rattle.host.specs.declared.state.Sender.the-variants.{NoSend, Sending}
 use Rattle.host.specs.declared.state.Taker.{Taker}
 use Rattle.host.specs.declared.state.Taker.the-variants.{NoTake, Taking}
 use Rattle.host.specs.declared.state.Host.{Host}
-use Rattle.oneword.specs.OneStep.{TouchesOnly, EveryStep, portRest, hostRest, fetchSideWord, fetchSiteWord, postSideWord, postSiteWord, sendSideWord, takeSideWord, clearWord}
+use Rattle.oneword.specs.OneStep.{TouchesOnly, EveryStep, portRest, hostRest, fetchSideWord, fetchSiteWord, postSideWord, postSiteWord, sendSideWord, takeSideWord}
 
 -- a step that is one touch and a function of what it found and of memory's length
 by-touch : (S : Type 0) (n : ℕ) (t : Touch) (f : ℕ → Word → S) → TouchesOnly S t (λ m. left n m t) (λ m. f (length m) (found n m t))

@@ -1,7 +1,7 @@
 -- "One step touches at most one word": for every side of both halves, the word that its stage names, and what that means.
 use Prim.Native.Nat.{ℕ}
 use mathlib.Core.Path.{_≡_}
-use mathlib.Core.Bool.{Bool, true, false, cond}
+use mathlib.Core.Bool.{cond}
 use lib.ListN.{length, getD}
 use Rattle.memory.specs.Memory.{Memory}
 use Rattle.memory.specs.OneWord.{Touches, Same}

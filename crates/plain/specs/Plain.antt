@@ -1,7 +1,7 @@
 -- The plain machine of demand 3: two bounded first-in first-out queues, long as the rings, with the credit counts.
 -- It does each operation whole, in one go. It knows nothing of the words in between and nothing of an operation half done.
 use Prim.Native.Nat.{ℕ, _+_, _-_}
-use mathlib.Core.Bool.{Bool, true, false, cond}
+use mathlib.Core.Bool.{Bool, cond}
 use mathlib.Core.List.{List, [], _∷_, _++_}
 use lib.Dec.{leb, eqb}
 use lib.ListN.{length}
@@ -46,12 +46,16 @@ start b = record { commands = []; responses = []; account = 1; unanswered = 0; o
 abbrev pub entry : List ℕ → ℕ → Entry
 entry t c = record { text = t; credits = c }
 
+-- Whether a queue is as long as it may grow.
+unfoldable pub full : ℕ → List Entry → Bool
+full bound q = leb bound (length q)
+
 -- A send: no credit (5), ring full (6), or the command is the youngest in its queue and a credit is spent.
 unfoldable pub send : Bounds → List ℕ → Plain → Result
 send b t x =
     cond (eqb (x .account) 0)
     (result (refused 5) x)
-    (cond (leb (b .commands) (length (x .commands)))
+    (cond (full (b .commands) (x .commands))
     (result (refused 6) x)
     (result done
     (record {
@@ -76,7 +80,7 @@ fetch x = fetchFrom x (x .commands)
 -- closes a command and grants; an unsolicited message carries 0.
 unfoldable pub post : Bounds → Bool → List ℕ → Plain → Result
 post b answers t x =
-    cond (leb (b .responses) (length (x .responses)))
+    cond (full (b .responses) (x .responses))
     (result (refused 8) x)
     (result done
     (record {

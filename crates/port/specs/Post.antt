@@ -23,7 +23,6 @@ use Rattle.area.specs.declared.Area.{Area}
 use Rattle.area.specs.declared.Ring.the-variants.{Response}
 use Rattle.port.specs.State.{Next, Outcome, with-memory, siteOf, withPoster, withOutgoing, withCounts, onward, fail, startOf, withHigh, withEnvelope, withAt}
 use Rattle.port.specs.Tail.{tailStart, tailTouch, tailAfter}
-use Rattle.port.specs.declared.state.Counts.{Counts}
 use Rattle.port.specs.declared.state.Cursor.{Cursor}
 use Rattle.port.specs.declared.state.Site.{Site}
 use Rattle.port.specs.declared.state.Site.the-variants.{Off, On}

@@ -5,7 +5,7 @@ use lib.Dec.{leb}
 use Rattle.words.specs.Fields.{isSet, one, wr, go}
 use Rattle.words.specs.Words.{step1Word, step2Word, step3Word, step4Word, fatalWord}
 use Rattle.memory.specs.Memory.{Memory}
-use Rattle.answers.specs.Told.{Told, told, refusal, done, fatal, fatalNumber}
+use Rattle.answers.specs.Told.{told, refusal, done, fatal, fatalNumber}
 use Rattle.answers.specs.declared.Fatal.the-variants.{RingWrite}
 use Rattle.area.specs.Layout.{stepInterrupt, areaLies, areaCleared}
 use Rattle.area.specs.declared.Area.{Area}

@@ -1,12 +1,11 @@
 -- The port's record with some of its fields changed, and what a call leaves: answer, next state, memory.
-use Prim.Native.Nat.{ℕ, _+_, _-_, min}
-use mathlib.Core.Bool.{Bool, true, false}
+use Prim.Native.Nat.{ℕ, _-_}
+use mathlib.Core.Bool.{Bool, false}
 use mathlib.Core.List.{List}
 use Rattle.texts.specs.Texts.{zeros}
 use Rattle.memory.specs.Memory.{Memory}
-use Rattle.answers.specs.Told.{Told, told, toldOf, refusal, going, done, fatal, fatalNumber}
+use Rattle.answers.specs.Told.{Told, told, toldOf, going, fatal, fatalNumber}
 use Rattle.answers.specs.declared.Fatal.{Fatal}
-use Rattle.area.specs.declared.Area.{Area}
 use Rattle.port.specs.declared.state.Made.{Made}
 use Rattle.port.specs.declared.state.Counts.{Counts}
 use Rattle.port.specs.declared.state.Cursor.{Cursor}

@@ -1,5 +1,4 @@
 -- The premises are met, by computing. Assumes nothing.
-use Prim.Native.Nat.{_≤_, _<_}
 use mathlib.Core.Path.{refl}
 use lib.Dec.{lit≤, lit<}
 use Rattle.texts.specs.Texts.{zeros, byteAt, withByte, wordOf, withText, padded}

@@ -1,11 +1,10 @@
 -- An operation that is stepped alone: how many steps, what they answer, what they leave.
 use Prim.Native.Nat.{ℕ, zero, suc, _+_, _*_}
 use mathlib.Core.Path.{_≡_}
-use mathlib.Core.Bool.{Bool, true, false, cond, _&&_, _||_}
-use mathlib.Core.List.{List, [], _∷_, _++_}
-use lib.ListN.{length}
+use mathlib.Core.Bool.{Bool, false, cond, _&&_, _||_}
+use mathlib.Core.List.{List, [], _∷_}
 use Rattle.words.specs.Fields.{isSet, owner}
-use Rattle.texts.specs.Texts.{zeros, wordOf, withText}
+use Rattle.texts.specs.Texts.{wordOf, withText}
 use Rattle.memory.specs.Memory.{Memory, wordIn, withWord}
 use Rattle.memory.specs.OneWord.{left}
 use Rattle.answers.specs.Told.{Told, told, going}

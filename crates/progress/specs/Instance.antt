@@ -15,7 +15,7 @@ use Rattle.host.specs.Setup.{setUpBy}
 use Rattle.host.specs.declared.state.Shake.the-variants.{Finished}
 use Rattle.host.specs.declared.state.Host.{Host}
 use Rattle.progress.specs.Alone.{written}
-use Rattle.progress.specs.Progress.{MaySend, MayTake, MayFetch, MayPost, sendPuts, afterSend, fetchLeft, afterFetch, postLeft, afterPost}
+use Rattle.progress.specs.Progress.{MaySend, MayTake, MayFetch, MayPost, sendPuts, afterSend, fetchLeft, afterFetch, postLeft}
 
 abbrev pub area : Area
 area = areaOf (record { command = 0; response = 0; interrupts = false; vector = 0; base = 8 })

@@ -8,9 +8,9 @@ use mathlib.Core.List.{List, [], _∷_, _++_}
 use lib.ListN.{length}
 use Rattle.words.specs.Fields.{of, isSet, owner, flagged, connection, messageType, credits}
 use Rattle.words.specs.Words.{addressOf, lowWord, withAddress, highWord, headerWord}
-use Rattle.texts.specs.Texts.{zeros, wordsOf, wordOf, padded}
-use Rattle.memory.specs.Memory.{Memory, usable, wordIn, withWord}
-use Rattle.answers.specs.Told.{Told, told, carried, going, done}
+use Rattle.texts.specs.Texts.{zeros, wordsOf, padded}
+use Rattle.memory.specs.Memory.{Memory, usable, wordIn}
+use Rattle.answers.specs.Told.{told, carried, going, done}
 use Rattle.rules.specs.Rules.{faultOf}
 use Rattle.rules.specs.declared.Fault.the-variants.{Sound}
 use Rattle.area.specs.Layout.{slots, base, slotAt, ringsEnd, nextOf, envelopeAt}

@@ -1,11 +1,10 @@
 -- The ways through the two rules, and what the credit rule adds up to. Assumes nothing.
-use Prim.Native.Nat.{ℕ, _+_, _-_, _<_, _≤_, min}
+use Prim.Native.Nat.{ℕ, _+_, _-_, _<_, _≤_}
 use mathlib.Core.Path.{_≡_}
 use native.Mathlib.Omega.{arith}
 use borrow.Author.Tests.{le-leb, lt-leb, eq-eqb, ne-eqb}
 use Rattle.answers.specs.declared.Fatal.the-variants.{InvalidConnection, Incompatible}
 use Rattle.rules.specs.Rules.{faultOf, carriedOf, leftOf}
-use Rattle.rules.specs.declared.Fault.{Fault}
 use Rattle.rules.specs.declared.Fault.the-variants.{Sound, Unsound}
 
 module _ (k c s : ℕ) where

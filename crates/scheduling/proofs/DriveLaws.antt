@@ -1,17 +1,15 @@
 -- Sides by number, and runs of steps and of bytes taken apart at their first.
 -- Assumes nothing.
 use Prim.Native.Nat.{ℕ, zero, suc, _+_, _-_, _/_, _%_, _<_, _≤_}
-use mathlib.Core.Path.{_≡_, refl, sym, ap, _∙_}
-use mathlib.Core.Bool.{Bool, true, false, cond}
-use mathlib.Core.List.{List, [], _∷_}
+use mathlib.Core.Path.{_≡_, sym, ap, _∙_}
+use mathlib.Core.List.{List}
 use native.Mathlib.Nat.{not-suc-le-zero}
 use native.Mathlib.Numerals.{sub-one}
 use native.Mathlib.Omega.{arith}
-use lib.Dec.{eqb}
 use lib.ListN.{length, getD, drop, drop-of-length-le}
 use lib.Seq.{drop-cons}
-use borrow.Author.Tests.{eq-eqb, ne-eqb}
-use Rattle.scheduling.specs.Machine.{Stand, stand}
+use borrow.Author.Tests.{ne-eqb}
+use Rattle.scheduling.specs.Machine.{Stand}
 use Rattle.scheduling.specs.Drive.{sideOf, turnOf, turnsOf, byteTurns, bytesTurns}
 use Rattle.scheduling.specs.declared.drive.Side.{Side}
 use Rattle.scheduling.specs.declared.drive.Side.the-variants.{Send, Take, Fetch, Answer}

@@ -2,14 +2,14 @@
 -- Assumes nothing.
 use Prim.Native.Nat.{ℕ, _+_, _/_, _%_, _^_}
 use mathlib.Core.Path.{_≡_, refl, sym, ap, _∙_}
-use mathlib.Core.Bool.{Bool, true, false, cond}
+use mathlib.Core.Bool.{Bool, true, false}
 use mathlib.Core.List.{List, [], _∷_}
 use lib.Dec.{ltb}
 use lib.ListN.{getD, set}
 use Rattle.words.specs.Words.{addressBits}
 use Rattle.memory.specs.Memory.{Memory}
 use Rattle.texts.specs.Texts.{wordOf}
-use Rattle.answers.specs.Told.{Told, toldOf, closingOf}
+use Rattle.answers.specs.Told.{toldOf, closingOf}
 use Rattle.answers.specs.declared.Said.{Said}
 use Rattle.answers.specs.declared.Reply.{Reply}
 use Rattle.port.specs.State as PortState
@@ -22,7 +22,7 @@ use Rattle.host.specs.Send.{sendBegun, sendStep}
 use Rattle.host.specs.Take.{takeBegun, takeStep}
 use Rattle.host.specs.declared.state.Host.{Host}
 use Rattle.host.specs.declared.state.Stepped as HostStepped
-use Rattle.scheduling.specs.Machine.{Stand, stand, countedIf, closes, isDone, bytesOf, textIn, withSent, withTaken, withFetched, withAnswered, oldest, kept, afterSend, afterTake, afterFetch, afterAnswer, sendEnds, takeEnds, fetchEnds, answerEnds, unflagged, sendTurn, takeTurn, fetchTurn, answerTurn}
+use Rattle.scheduling.specs.Machine.{stand, countedIf, closes, isDone, bytesOf, textIn, withSent, withTaken, withFetched, withAnswered, oldest, kept, afterSend, afterTake, afterFetch, afterAnswer, sendEnds, takeEnds, fetchEnds, answerEnds, unflagged, sendTurn, takeTurn, fetchTurn, answerTurn}
 use Rattle.scheduling.specs.declared.machine.Tally.{Tally}
 use Rattle.scheduling.specs.declared.machine.Machine.{Machine}
 

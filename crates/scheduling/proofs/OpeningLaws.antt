@@ -1,8 +1,7 @@
 -- The handshake's calls are the exchanges of `meeting`, and the setup follows them.
 -- Assumes nothing.
 use Prim.Native.Nat.{ℕ, zero, suc, _-_, _<_}
-use mathlib.Core.Path.{_≡_, refl, sym, ap, _∙_}
-use mathlib.Core.List.{List}
+use mathlib.Core.Path.{_≡_, sym, ap, _∙_}
 use native.Mathlib.Nat.{not-suc-le-zero}
 use native.Mathlib.Numerals.{sub-one}
 use Rattle.words.specs.Words.{addressBits}
@@ -21,9 +20,8 @@ use Rattle.host.specs.declared.state.Host.{Host}
 use Rattle.host.specs.declared.state.Shaken.{Shaken}
 use Rattle.host.specs.declared.state.Stepped as HostStepped
 use Rattle.meeting.specs.Meeting.{Pair, pair, obeyed, opened, exchange, exchanges}
-use Rattle.scheduling.specs.Machine.{Stand, stand}
+use Rattle.scheduling.specs.Machine.{Stand}
 use Rattle.scheduling.specs.Opening.{asked, unmet, nothing, settledBy, settled, startedBy}
-use Rattle.scheduling.specs.declared.machine.Machine.{Machine}
 use Rattle.scheduling.specs.declared.opening.Halves.{Halves}
 
 module _ (h : Host) (p : Port) (m : Memory) (a : Act) where

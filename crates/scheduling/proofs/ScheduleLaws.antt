@@ -1,17 +1,17 @@
 -- Which inputs are taken, and the whole run from its parts.
 -- Assumes nothing.
 use Prim.Native.Nat.{ℕ, _/_, _%_, _<_, _≤_}
-use mathlib.Core.Path.{_≡_, refl, sym, ap, subst, _∙_}
-use mathlib.Core.Bool.{Bool, true, false, cond, _&&_}
+use mathlib.Core.Path.{_≡_, sym, ap, subst, _∙_}
+use mathlib.Core.Bool.{Bool, true, false}
 use mathlib.Core.List.{List}
-use lib.Dec.{leb, eqb}
-use lib.ListN.{length, getD, drop, List·getD-eq-default}
+use lib.Dec.{leb}
+use lib.ListN.{length, drop, List·getD-eq-default}
 use borrow.Author.Tests.{le-leb, lt-leb, eq-eqb, ne-eqb}
 use Rattle.memory.specs.Memory.{Memory}
-use Rattle.scheduling.specs.Machine.{Stand, stand}
+use Rattle.scheduling.specs.Machine.{stand}
 use Rattle.scheduling.specs.Opening.{startedBy}
 use Rattle.scheduling.specs.Drive.{bytesTurns}
-use Rattle.scheduling.specs.Schedule.{Report, reported, byteOf, commandOf, responseOf, zeroBits, limitOf, takes, refusedLine, lineOf, endedAt, runOf}
+use Rattle.scheduling.specs.Schedule.{reported, byteOf, commandOf, responseOf, zeroBits, limitOf, takes, refusedLine, lineOf, endedAt, runOf}
 use Rattle.scheduling.specs.declared.Line.{Line}
 use Rattle.scheduling.specs.declared.machine.Machine.{Machine}
 

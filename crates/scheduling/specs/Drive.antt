@@ -1,9 +1,9 @@
 -- "then bytes of 2 bits side (0 send, 1 take, 2 fetch, 3 answer) and 6 bits number of steps. Most significant bit first."
 use Prim.Native.Nat.{ℕ, zero, suc, _/_, _%_}
-use mathlib.Core.Bool.{Bool, cond}
+use mathlib.Core.Bool.{cond}
 use mathlib.Core.List.{List, [], _∷_}
 use lib.Dec.{eqb}
-use Rattle.scheduling.specs.Machine.{Stand, stand, sendTurn, takeTurn, fetchTurn, answerTurn}
+use Rattle.scheduling.specs.Machine.{Stand, sendTurn, takeTurn, fetchTurn, answerTurn}
 use Rattle.scheduling.specs.declared.drive.Side.{Side}
 use Rattle.scheduling.specs.declared.drive.Side.the-variants.{Send, Take, Fetch, Answer}
 

@@ -12,7 +12,6 @@ use Rattle.host.specs.Setup.{setUpBy}
 use Rattle.host.specs.declared.state.Beginning.{Beginning}
 use Rattle.meeting.specs.Meeting.{Pair, pair, opened, exchanges}
 use Rattle.scheduling.specs.Machine.{Stand, stand}
-use Rattle.scheduling.specs.declared.machine.Machine.{Machine}
 use Rattle.scheduling.specs.declared.machine.Tally.{Tally}
 use Rattle.scheduling.specs.declared.opening.Halves.{Halves}
 

@@ -1,11 +1,10 @@
 -- The ways through a text's room, and the room after a copy. Assumes nothing.
 use Prim.Native.Nat.{ℕ, zero, suc, _+_, _*_, _-_, _/_, _%_, _<_, _≤_}
 use mathlib.Core.Path.{_≡_, refl, sym, ap, _∙_}
-use mathlib.Core.Bool.{Bool, true, false}
-use mathlib.Core.List.{List, [], _∷_, _++_}
+use mathlib.Core.List.{List}
 use native.Mathlib.Omega.{arith}
 use native.Mathlib.Nat.{sub-zero, suc-sub-suc, zero-sub}
-use lib.ListN.{length, getD, set, take, drop, replicate, length-replicate}
+use lib.ListN.{length, getD, set, drop, replicate}
 use lib.Seq.{paste, paste-zero, paste-suc, take-length}
 use borrow.Author.Tests.{lt-ltb, le-ltb}
 use Rattle.texts.specs.Texts.{zeros, byteAt, withByte, wordOf, withText, padded}

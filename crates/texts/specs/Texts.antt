@@ -1,6 +1,6 @@
 -- "A word of text costs a step; an odd last byte is stored with 0 above it and read without it."
 use Prim.Native.Nat.{ℕ, _+_, _*_, _-_, _/_, _%_}
-use mathlib.Core.Bool.{Bool, cond}
+use mathlib.Core.Bool.{cond}
 use mathlib.Core.List.{List, _++_}
 use lib.Dec.{ltb}
 use lib.ListN.{length, getD, set, replicate}

@@ -1,34 +1,30 @@
 -- A run starts where handshake, polls and an accepted setup lead. Assumes nothing.
-use Prim.Native.Nat.{ℕ, suc, _+_, _*_, _-_, _/_, _%_, _^_, _<_, _≤_, min}
-use mathlib.Core.Path.{_≡_, refl, sym, ap, ap₂, subst, _∙_}
-use mathlib.Core.Bool.{Bool, true, false, cond, _&&_, false≢true}
-use mathlib.Core.List.{List, [], _∷_, _++_}
-use mathlib.Core.Logic.{_⊎_, inl, inr}
+use Prim.Native.Nat.{ℕ, _+_, _-_, _≤_}
+use mathlib.Core.Path.{_≡_, refl, sym, ap, subst, _∙_}
+use mathlib.Core.Bool.{Bool, true, false, _&&_, false≢true}
+use mathlib.Core.List.{List, [], _∷_}
 use native.Mathlib.Omega.{arith}
 use lib.Dec.{leb, eqb}
 use lib.ListN.{length, getD}
-use borrow.Author.Tests.{leb-true, le-leb, lt-leb}
-use Rattle.words.specs.Fields.{of, isSet, owner}
-use Rattle.words.specs.Words.{addressBits, goWord}
+use borrow.Author.Tests.{leb-true}
+use Rattle.words.specs.Fields.{of}
+use Rattle.words.specs.Words.{goWord}
 use Rattle.texts.specs.Texts.{zeros, padded}
-use Rattle.memory.specs.Memory.{Memory, usable, lies, inside, wordIn, cleared}
-use Rattle.memory.specs.OneWord.{found, left}
+use Rattle.memory.specs.Memory.{Memory, usable, lies, cleared}
+use Rattle.memory.specs.OneWord.{found}
 use Rattle.memory.specs.declared.Word.the-variants.{Value}
 use Rattle.memory.specs.declared.Touch.the-variants.{Read}
 use Rattle.memory.proofs.Laws.{usable-le, inside-yes, wordAt-yes, cleared-length, cleared-inside}
-use Rattle.answers.specs.Told.{told, refusal, done, refused, Told, Closing}
-use Rattle.area.specs.Layout.{slots, slotCount, base, numberOf, slotAt, ringsEnd, lead, areaLies, areaCleared}
+use Rattle.area.specs.Layout.{base, slotAt, ringsEnd, lead, areaLies, areaCleared}
 use Rattle.area.specs.declared.Area.{Area}
 use Rattle.area.specs.declared.Ring.{Ring}
 use Rattle.area.specs.declared.Ring.the-variants.{Command, Response}
-use Rattle.layout.proofs.Rings.{slots-some, number-lt}
 use Rattle.port.specs.State as PortState
 use Rattle.port.specs.Fetch.{fetchTouch, fetchHigh, fetchAfter, fetchStep, fetchBegun, refuseFetch}
 use Rattle.port.specs.Post.{postTouch, postHigh, postAfter, postStep, postBegun, postWith, refusePost}
 use Rattle.port.specs.declared.state.Cursor.{Cursor}
 use Rattle.port.specs.declared.state.Made.{Made}
 use Rattle.port.specs.declared.state.Stage.the-variants as S
-use Rattle.port.specs.declared.state.TailStage.the-variants as E
 use Rattle.port.specs.declared.state.Phase.the-variants.{Running}
 use Rattle.port.specs.declared.state.Fetcher.{Fetcher}
 use Rattle.port.specs.declared.state.Fetcher.the-variants.{NoFetch, Fetching, FetchTail}
@@ -36,7 +32,7 @@ use Rattle.port.specs.declared.state.Poster.{Poster}
 use Rattle.port.specs.declared.state.Poster.the-variants.{NoPost, Posting, PostTail}
 use Rattle.port.specs.declared.state.Port.{Port}
 use Rattle.host.specs.declared.state.Host.{Host}
-use Rattle.traffic.specs.World.{World, world, Ev, beginSend, stepSend, beginTake, stepTake, beginFetch, stepFetch, beginPost, stepPost, clearMark, readSa, writeSa, showSa, timeIsUp, Bytes, Proper, Did, act, final}
+use Rattle.traffic.specs.World.{World, world, Ev, beginSend, stepSend, beginTake, stepTake, beginFetch, stepFetch, beginPost, stepPost, clearMark, readSa, writeSa, showSa, timeIsUp, Bytes, Proper, act, final}
 use Rattle.traffic.specs.Traffic.{AllProper, Polls, AllPoll}
 
 -- the word at a place of a cleared area is 0
@@ -234,6 +230,6 @@ module _ (n : ℕ) (a : Area) (made : Made) (m : Memory) (h : Host) (zero-high :
   poll (showSa v) q y w I = absurd q
   poll timeIsUp q y w I = absurd q
 
-  pub poll-all : (ps : List Ev) → AllPoll ps → AllProper ps → (w : World) → Polling a made m h w → Polling a made m h (final n ps w)
+  pub poll-all : (ps : List Ev) → AllPoll ps → AllProper ps → (w : World) → Polling a made m h w → Polling a made m h (final (act n) ps w)
   poll-all [] q y w I = I
   poll-all (e ∷ ps) q y w I = poll-all ps (q .1) (y .1) (act n e w .next) (poll e (q .0) (y .0) w I)

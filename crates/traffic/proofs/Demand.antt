@@ -1,21 +1,16 @@
 -- Demand 3: from handshake, polls and an accepted setup, whatever the order of calls. Assumes nothing.
-use Prim.Native.Nat.{ℕ, suc, _+_, _*_, _-_, _/_, _%_, _^_, _<_, _≤_, min}
-use mathlib.Core.Path.{_≡_, refl, sym, ap, ap₂, subst, _∙_}
-use mathlib.Core.Bool.{Bool, true, false, cond}
-use mathlib.Core.List.{List, [], _∷_, _++_}
+use Prim.Native.Nat.{ℕ, _+_, _-_, _%_, _^_, _<_, _≤_}
+use mathlib.Core.Path.{_≡_, refl, sym, ap, subst, _∙_}
+use mathlib.Core.Bool.{Bool, true, false}
+use mathlib.Core.List.{List, []}
 use native.Mathlib.Omega.{arith}
 use native.Mathlib.Nat.{mod-add-mod}
-use lib.Dec.{leb}
 use lib.ListN.{length, getD, drop, length-drop}
 use lib.Seq.{getD-drop}
 use Rattle.words.specs.Words.{addressBits, goWord}
-use Rattle.texts.specs.Texts.{zeros, padded}
 use Rattle.memory.specs.Memory.{Memory, usable}
-use Rattle.memory.specs.OneWord.{found}
-use Rattle.memory.specs.declared.Word.the-variants.{Value}
-use Rattle.memory.specs.declared.Touch.the-variants.{Read}
-use Rattle.answers.specs.Told.{Told, told, refusal, Closing, done, refused}
-use Rattle.area.specs.Layout.{slots, slotCount, base, numberOf, slotAt, ringsEnd, envelopeAt, areaLies, areaCleared}
+use Rattle.answers.specs.Told.{Told, told, done, refused}
+use Rattle.area.specs.Layout.{slots, slotCount, base, slotAt, ringsEnd, envelopeAt, areaCleared}
 use Rattle.area.specs.Setup.{poolEnd, fits, setUp}
 use Rattle.area.specs.declared.Area.{Area}
 use Rattle.area.specs.declared.Ring.{Ring}
@@ -23,9 +18,8 @@ use Rattle.area.specs.declared.Ring.the-variants.{Command, Response}
 use Rattle.layout.specs.Facts.{AreaFacts}
 use Rattle.layout.proofs.Rings.{slots-some, number-lt, every-layout}
 use Rattle.plain.specs.Plain.{Entry, Bounds, Plain, start}
-use Rattle.plain.specs.Log.{Log, nothing, Ran, begin, Good}
+use Rattle.plain.specs.Log.{nothing, Ran, begin, Good}
 use Rattle.plain.proofs.InOrder.{every-run-in-order}
-use Rattle.port.specs.State as PortState
 use Rattle.port.specs.Shake.{saOf}
 use Rattle.port.specs.declared.state.Made.{Made}
 use Rattle.port.specs.declared.state.Stage.the-variants as S
@@ -44,17 +38,18 @@ use Rattle.host.specs.declared.state.Taker.{Taker}
 use Rattle.host.specs.declared.state.Taker.the-variants.{NoTake, Taking}
 use Rattle.host.specs.declared.state.TakeStage.the-variants as T
 use Rattle.host.specs.declared.state.Host.{Host}
-use Rattle.meeting.specs.Meeting.{Pair, exchanges, opened, running}
+use Rattle.meeting.specs.Meeting.{Pair}
 use Rattle.meeting.proofs.Meet.{every-meeting}
 use Rattle.traffic.specs.Places.{Site, view}
 use Rattle.traffic.specs.Rings.{Letter, blank, RingInv}
-use Rattle.traffic.specs.World.{World, world, Ev, final}
-use Rattle.traffic.specs.Play.{idle, Play, game, plays, ends, logs}
+use Rattle.traffic.specs.World.{World, world, Ev, act, final}
+use Rattle.traffic.specs.Play.{idle, Play, game}
 use Rattle.traffic.specs.Invariant.{Past, FetchInv, PostInv, wholeFrom, Inv, Setting, fetchJob, postJob, plainOf, playOf}
-use Rattle.traffic.specs.Traffic.{AllProper, met, polled, started, Start, boundsOf, siteOf, Promise, AtStart, EveryRun}
+use Rattle.traffic.specs.Traffic.{met, polled, started, Start, boundsOf, siteOf, history, Promise, AtStart, EveryRun}
 use Rattle.traffic.proofs.SetupLaws.{Picture, picture}
 use Rattle.traffic.proofs.FirstRings.{first-ring}
 use Rattle.traffic.proofs.Begin.{zero-word, PollFetch, PollPost, Polling, poll-all}
+use Rattle.traffic.proofs.Sim.{FetchSteps, PostSteps}
 use Rattle.traffic.proofs.Run.{Whole, whole}
 
 usable-end : (n size : ℕ) → usable n size ≤ 2 ^ n
@@ -129,18 +124,17 @@ held g r m i j hist h from R k f l =
     rw (e, getD-drop h hist k blank) (R .kept (h + k) f (omega (arith, l, length-drop h hist)))
 
 -- a promise, from what holds of the whole run
-promised : (b : Beginning) (pool end : ℕ) (bs : Bounds) (St : Setting (siteOf b pool) end bs) → 1 ≤ bs .limit → (es : List Ev) (w : World) (x : Past) → Whole (siteOf b pool) end bs St es w x
-    → Ran bs nothing (plainOf w x) → Promise (siteOf b pool) bs es w (playOf w x)
+promised : (b : Beginning) (pool end : ℕ) (bs : Bounds) (St : Setting (siteOf b pool) end bs) → 1 ≤ bs .limit → (es : List Ev) (w : World) (x : Past) → Whole (siteOf b pool) end bs St es w x 0 0
+    → Ran bs nothing (plainOf w x) → Promise (act addressBits) (siteOf b pool) bs es w (playOf w x)
 promised b pool end bs St some es w x W r =
     let g : Site = siteOf b pool in
-    let f : World = final addressBits es w in
+    let f : World = final (act addressBits) es w in
     let y : Past = W .past in
     let q = W .reaches in
     record {
-      moments = W .moments;
       each = W .each;
       same = W .same;
-      good = subst (λ (s : Play). Good bs (logs bs (W .moments) es (playOf w x) nothing) (s .plain)) (sym q) (every-run-in-order bs some (logs bs (W .moments) es (playOf w x) nothing) (plainOf f y) (W .ran nothing r));
+      good = subst (λ (s : Play). Good bs (history (act addressBits) bs es w (playOf w x)) (s .plain)) (sym q) (every-run-in-order bs some (history (act addressBits) bs es w (playOf w x)) (plainOf f y) (W .ran nothing r));
       account = ap (λ (s : Play). s .plain .account) q;
       unanswered = ap (λ (s : Play). s .plain .unanswered) q;
       owed = ap (λ (s : Play). s .plain .owed) q;
@@ -151,7 +145,29 @@ promised b pool end bs St some es w x W r =
           subst (λ (s : Play). (k : ℕ) → wholeFrom 0 (f .host .taker) ≤ k → k < length (s .plain .responses) → Letter (view g (f .memory)) Response ((f .host .counts .take + k) % slots (g .area) Response) (getD (s .plain .responses) k blank)) (sym q)
           (λ k v u. held g Response (f .memory) (f .port .counts .post) (f .host .counts .take) (y .posted) (y .taken) (wholeFrom (y .taken) (f .host .taker)) (W .inv .responses) k (omega (arith, whole-shift (y .taken) (f .host .taker))) u);
       quiet = sa-zero (f .port) (g .area) (W .inv .go) (W .inv .port-runs);
+      calm = W .calm;
     }
+
+-- what a polling port has begun has made no step
+none-fetched : (p : Port) (f : Fetcher) → PollFetch p f → FetchSteps 0 f
+none-fetched p NoFetch P = tt
+none-fetched p (Fetching S.High c) P = refl
+none-fetched p (Fetching S.Low c) P = absurd P
+none-fetched p (Fetching S.Length c) P = absurd P
+none-fetched p (Fetching S.Header c) P = absurd P
+none-fetched p (Fetching S.Text c) P = absurd P
+none-fetched p (Fetching S.Release c) P = absurd P
+none-fetched p (FetchTail s c) P = tt
+
+none-posted : (p : Port) (t : List ℕ) (q : Poster) → PollPost p t q → PostSteps 0 q
+none-posted p t NoPost P = tt
+none-posted p t (Posting S.High c) P = refl
+none-posted p t (Posting S.Low c) P = absurd P
+none-posted p t (Posting S.Length c) P = absurd P
+none-posted p t (Posting S.Header c) P = absurd P
+none-posted p t (Posting S.Text c) P = absurd P
+none-posted p t (Posting S.Release c) P = absurd P
+none-posted p t (PostTail s c) P = tt
 
 module _ (b : Beginning) (x : Pair) (ps : List Ev) (pool : ℕ) (St : Start b x ps pool) where
   a : Area
@@ -256,10 +272,14 @@ module _ (b : Beginning) (x : Pair) (ps : List Ev) (pool : ℕ) (St : Start b x 
       record {
         fetcher = fetchJob [] (polled b x ps .port .fetcher);
         poster = postJob (polls .text) (polled b x ps .port .poster);
+        unpolled = λ e. (
+          ap (λ (qs : List Ev). fetchJob [] (polled b x qs .port .fetcher)) e ∙ ap (λ (y : Pair). fetchJob [] (y .port .fetcher)) (every-meeting b x (St .settings) (St .area-in) .meet),
+          ap (λ (qs : List Ev). postJob (polls .text) (polled b x qs .port .poster)) e ∙ ap (λ (y : Pair). postJob (polls .text) (y .port .poster)) (every-meeting b x (St .settings) (St .area-in) .meet),
+        );
         promise = λ es y.
-            subst (λ (w : World). Promise (siteOf b pool) (boundsOf b x) es w (game (start (boundsOf b x)) idle idle (fetchJob [] (polled b x ps .port .fetcher)) (postJob (polls .text) (polled b x ps .port .poster)))) (sym is-started)
-            (subst (λ (s : Plain). Promise (siteOf b pool) (boundsOf b x) es now (game s idle idle (fetchJob [] (polled b x ps .port .fetcher)) (postJob (polls .text) (polled b x ps .port .poster)))) plain-is
-            (promised b pool end (boundsOf b x) setting (St .some) es now first (whole (siteOf b pool) end (boundsOf b x) setting es y now first inv)
+            subst (λ (w : World). Promise (act addressBits) (siteOf b pool) (boundsOf b x) es w (game (start (boundsOf b x)) idle idle (fetchJob [] (polled b x ps .port .fetcher)) (postJob (polls .text) (polled b x ps .port .poster)))) (sym is-started)
+            (subst (λ (s : Plain). Promise (act addressBits) (siteOf b pool) (boundsOf b x) es now (game s idle idle (fetchJob [] (polled b x ps .port .fetcher)) (postJob (polls .text) (polled b x ps .port .poster)))) plain-is
+            (promised b pool end (boundsOf b x) setting (St .some) es now first (whole (siteOf b pool) end (boundsOf b x) setting es y now first inv 0 0 (none-fetched (polled b x ps .port) (polled b x ps .port .fetcher) (polls .fetch)) (none-posted (polled b x ps .port) (polls .text) (polled b x ps .port .poster) (polls .post)))
             (subst (λ (s : Plain). Ran (boundsOf b x) nothing s) (sym plain-is) begin)));
       }
 

@@ -1,8 +1,8 @@
 -- The calls that begin an operation, clear an indicator, or concern SA. Assumes nothing.
-use Prim.Native.Nat.{ℕ, suc, _+_, _*_, _-_, _%_, _<_, _≤_}
+use Prim.Native.Nat.{ℕ, _≤_}
 use mathlib.Core.Path.{_≡_, refl, sym, ap, subst, _∙_}
-use mathlib.Core.Bool.{Bool, true, false, cond, not, _&&_}
-use mathlib.Core.List.{List, [], _∷_, _++_}
+use mathlib.Core.Bool.{Bool, true, false, cond, _&&_}
+use mathlib.Core.List.{List}
 use native.Mathlib.Omega.{arith}
 use lib.Dec.{leb, eqb}
 use lib.ListN.{length}
@@ -10,14 +10,13 @@ use borrow.Author.Tests.{leb-true, eqb-false}
 use Rattle.words.specs.Fields.{of, isSet, er, fatalCode}
 use Rattle.texts.specs.Texts.{zeros, padded}
 use Rattle.memory.specs.Memory.{Memory, withWord}
-use Rattle.memory.specs.OneWord.{found, left}
+use Rattle.memory.specs.OneWord.{found}
 use Rattle.memory.specs.declared.Word.the-variants.{Value}
 use Rattle.memory.specs.declared.Touch.the-variants.{Write}
-use Rattle.answers.specs.Told.{told, refusal, done, going}
-use Rattle.area.specs.Layout.{slots, indicator}
+use Rattle.answers.specs.Told.{told, refusal, done}
+use Rattle.area.specs.Layout.{indicator}
 use Rattle.area.specs.declared.Area.{Area}
 use Rattle.area.specs.declared.Ring.{Ring}
-use Rattle.area.specs.declared.Ring.the-variants.{Command, Response}
 use Rattle.layout.specs.Facts.{AreaFacts}
 use Rattle.plain.specs.Plain.{Bounds}
 use Rattle.port.specs.State as PortState
@@ -45,13 +44,15 @@ use Rattle.host.specs.declared.state.Sender.the-variants.{NoSend, Sending}
 use Rattle.host.specs.declared.state.Taker.{Taker}
 use Rattle.host.specs.declared.state.Taker.the-variants.{NoTake, Taking}
 use Rattle.host.specs.declared.state.Host.{Host}
-use Rattle.traffic.specs.Places.{Place, envWord, markWord, Site, addr, view}
+use Rattle.traffic.specs.Places.{markWord, Site, addr, view}
 use Rattle.traffic.specs.World.{World, world, Ev, beginSend, beginTake, beginFetch, beginPost, clearMark, readSa, writeSa, showSa, timeIsUp, Bytes, Did, act, byHost, byHostOnly, byPort, byPortOnly, byTurn}
 use Rattle.traffic.specs.Invariant.{Past, Inv, Setting}
-use Rattle.traffic.proofs.Place.{mark-env, writes, kept}
-use Rattle.traffic.proofs.RingLaws.{slot-lt}
-use Rattle.traffic.proofs.Frames.{size-kept, quiet-mark, send-frame, fetch-frame, take-frame, post-frame}
-use Rattle.traffic.proofs.Sim.{Sim, later, sim-of}
+use Rattle.traffic.proofs.Place.{writes}
+use Rattle.traffic.proofs.Frames.{send-frame, fetch-frame, take-frame, post-frame}
+use Rattle.traffic.specs.Traffic.{calmly}
+use Rattle.traffic.specs.Watch.{watch, momentOf, fetchCount, postCount}
+use Rattle.traffic.proofs.Marks.{marked, post-stays}
+use Rattle.traffic.proofs.Sim.{Sim, FetchSteps, PostSteps, later, sim-of}
 
 module _ (g : Site) (end : ℕ) (b : Bounds) (S′ : Setting g end b) (h : Host) (p : Port) (m : Memory) (x : Past) where
   F : AreaFacts (g .bits) (g .area) (g .pool) end
@@ -76,8 +77,10 @@ module _ (g : Site) (end : ℕ) (b : Bounds) (S′ : Setting g end b) (h : Host)
   -- nothing changes
   still : (e : Ev) (w : World) → Inv g end b w x → (d : Did) → d .next ≡ w
       → Rattle.traffic.specs.Play.play b later e (Rattle.traffic.specs.Invariant.playOf w x) ≡ Rattle.traffic.specs.Play.played (d .ans) (Rattle.traffic.specs.Invariant.playOf w x)
+      → calmly (d .ans) ≡ true → ((k j : ℕ) → momentOf (watch (Rattle.traffic.specs.Invariant.playOf w x) k j) e (d .ans) ≡ later)
+      → ((k : ℕ) → fetchCount e (d .ans) k ≡ k) → ((k : ℕ) → postCount e (d .ans) k ≡ k)
       → Sim g end b e w x d
-  still e w I d q s =
+  still e w I d q s c t f p =
       record {
         moment = later;
         past = x;
@@ -85,6 +88,10 @@ module _ (g : Site) (end : ℕ) (b : Bounds) (S′ : Setting g end b) (h : Host)
         same = s ∙ ap (λ (y : World). Rattle.traffic.specs.Play.played (d .ans) (Rattle.traffic.specs.Invariant.playOf y x)) (sym q);
         ran = λ l r. subst (λ (k : Rattle.plain.specs.Log.Log). Rattle.plain.specs.Log.Ran b k (Rattle.traffic.specs.Invariant.plainOf (d .next) x)) (sym (not-logged e (Rattle.traffic.specs.Invariant.playOf w x) l))
             (subst (λ (y : World). Rattle.plain.specs.Log.Ran b l (Rattle.traffic.specs.Invariant.plainOf y x)) (sym q) r);
+        calm = c;
+        timed = λ k j u v. t k j;
+        fetch-counted = λ k u. subst (λ (y : World). FetchSteps (fetchCount e (d .ans) k) (y .port .fetcher)) (sym q) (subst (λ (i : ℕ). FetchSteps i (w .port .fetcher)) (sym (f k)) u);
+        post-counted = λ k u. subst (λ (y : World). PostSteps (postCount e (d .ans) k) (y .port .poster)) (sym q) (subst (λ (i : ℕ). PostSteps i (w .port .poster)) (sym (p k)) u);
       }
 
   host-ready : (h′ : Host) → h′ .shake ≡ Finished → h′ .ready ≡ true → isReady h′ ≡ true
@@ -102,7 +109,7 @@ module _ (g : Site) (end : ℕ) (b : Bounds) (S′ : Setting g end b) (h : Host)
       → Sim g end b (beginSend f t) (world (HostState.withSender h snd) p m) x (act (g .bits) (beginSend f t) (world (HostState.withSender h snd) p m))
   begin-send (Sending s c) f t y I =
       sim-of g end b (beginSend f t) (world (HostState.withSender h (Sending s c)) p m) x (byHostOnly (world (HostState.withSender h (Sending s c)) p m)) (send-begun (Sending s c) f t (host-ready h (I .host-runs) (I .host-ready)))
-      (still (beginSend f t) (world (HostState.withSender h (Sending s c)) p m) I _ refl refl)
+      (still (beginSend f t) (world (HostState.withSender h (Sending s c)) p m) I _ refl refl refl (λ k j. refl) (λ k. refl) (λ k. refl))
   begin-send NoSend f t y I =
       sim-of g end b (beginSend f t) w x (byHostOnly w) (send-begun NoSend f t (host-ready h (I .host-runs) (I .host-ready))) (by (leb (length t) 60) refl)
     where
@@ -116,7 +123,7 @@ module _ (g : Site) (end : ℕ) (b : Bounds) (S′ : Setting g end b) (h : Host)
       h′ = HostState.withSender (HostState.withOutgoing h (padded t)) (Sending H.Look (HostState.startOf (h .counts .send) (length t) f))
 
       by : (o : Bool) → leb (length t) 60 ≡ o → Sim g end b (beginSend f t) w x (byHostOnly w (sendWith (HostState.withSender h NoSend) (record { flag = f }) t))
-      by false e = rw e (still (beginSend f t) w I (byHostOnly w (record { told = refusal 3; state = HostState.withSender h NoSend })) refl (rw e))
+      by false e = rw e (still (beginSend f t) w I (byHostOnly w (record { told = refusal 3; state = HostState.withSender h NoSend })) refl (rw e) refl (λ k j. refl) (λ k. refl) (λ k. refl))
       by true e =
           rw e
           record {
@@ -142,6 +149,10 @@ module _ (g : Site) (end : ℕ) (b : Bounds) (S′ : Setting g end b) (h : Host)
                 };
             same = rw e;
             ran = λ l r. r;
+            calm = refl;
+            timed = λ k j u v. refl;
+            fetch-counted = λ k u. u;
+            post-counted = λ k u. u;
           }
 
   ---------------------------------------------------------------- beginning a take
@@ -154,7 +165,7 @@ module _ (g : Site) (end : ℕ) (b : Bounds) (S′ : Setting g end b) (h : Host)
       → Sim g end b beginTake (world (HostState.withTaker h tk) p m) x (act (g .bits) beginTake (world (HostState.withTaker h tk) p m))
   begin-take (Taking s c) I =
       sim-of g end b beginTake (world (HostState.withTaker h (Taking s c)) p m) x (byHostOnly (world (HostState.withTaker h (Taking s c)) p m)) (take-begun (Taking s c) (host-ready h (I .host-runs) (I .host-ready)))
-      (still beginTake (world (HostState.withTaker h (Taking s c)) p m) I _ refl refl)
+      (still beginTake (world (HostState.withTaker h (Taking s c)) p m) I _ refl refl refl (λ k j. refl) (λ k. refl) (λ k. refl))
   begin-take NoTake I =
       sim-of g end b beginTake (world (HostState.withTaker h NoTake) p m) x (byHostOnly (world (HostState.withTaker h NoTake) p m)) (take-begun NoTake (host-ready h (I .host-runs) (I .host-ready)))
       record {
@@ -181,6 +192,10 @@ module _ (g : Site) (end : ℕ) (b : Bounds) (S′ : Setting g end b) (h : Host)
             };
         same = refl;
         ran = λ l r. r;
+        calm = refl;
+        timed = λ k j u v. refl;
+        fetch-counted = λ k u. u;
+        post-counted = λ k u. u;
       }
 
   ---------------------------------------------------------------- beginning a fetch
@@ -193,10 +208,10 @@ module _ (g : Site) (end : ℕ) (b : Bounds) (S′ : Setting g end b) (h : Host)
       → Sim g end b beginFetch (world h (PortState.withFetcher p f) m) x (act (g .bits) beginFetch (world h (PortState.withFetcher p f) m))
   begin-fetch (Fetching s c) I =
       sim-of g end b beginFetch (world h (PortState.withFetcher p (Fetching s c)) m) x (byPortOnly (world h (PortState.withFetcher p (Fetching s c)) m)) (fetch-begun (Fetching s c) (g .area) (I .go) (I .port-runs))
-      (still beginFetch (world h (PortState.withFetcher p (Fetching s c)) m) I _ refl refl)
+      (still beginFetch (world h (PortState.withFetcher p (Fetching s c)) m) I _ refl refl refl (λ k j. refl) (λ k. refl) (λ k. refl))
   begin-fetch (FetchTail s c) I =
       sim-of g end b beginFetch (world h (PortState.withFetcher p (FetchTail s c)) m) x (byPortOnly (world h (PortState.withFetcher p (FetchTail s c)) m)) (fetch-begun (FetchTail s c) (g .area) (I .go) (I .port-runs))
-      (still beginFetch (world h (PortState.withFetcher p (FetchTail s c)) m) I _ refl refl)
+      (still beginFetch (world h (PortState.withFetcher p (FetchTail s c)) m) I _ refl refl refl (λ k j. refl) (λ k. refl) (λ k. refl))
   begin-fetch NoFetch I =
       sim-of g end b beginFetch (world h (PortState.withFetcher p NoFetch) m) x (byPortOnly (world h (PortState.withFetcher p NoFetch) m)) (fetch-begun NoFetch (g .area) (I .go) (I .port-runs))
       record {
@@ -223,6 +238,10 @@ module _ (g : Site) (end : ℕ) (b : Bounds) (S′ : Setting g end b) (h : Host)
             };
         same = refl;
         ran = λ l r. r;
+        calm = refl;
+        timed = λ k j u v. refl;
+        fetch-counted = λ k u. refl;
+        post-counted = λ k u. u;
       }
 
   ---------------------------------------------------------------- beginning a post
@@ -235,10 +254,10 @@ module _ (g : Site) (end : ℕ) (b : Bounds) (S′ : Setting g end b) (h : Host)
       → Sim g end b (beginPost a t) (world h (PortState.withPoster p q) m) x (act (g .bits) (beginPost a t) (world h (PortState.withPoster p q) m))
   begin-post (Posting s c) a t y I =
       sim-of g end b (beginPost a t) (world h (PortState.withPoster p (Posting s c)) m) x (byPortOnly (world h (PortState.withPoster p (Posting s c)) m)) (post-begun (Posting s c) a t (g .area) (I .go) (I .port-runs))
-      (still (beginPost a t) (world h (PortState.withPoster p (Posting s c)) m) I _ refl refl)
+      (still (beginPost a t) (world h (PortState.withPoster p (Posting s c)) m) I _ refl refl refl (λ k j. refl) (λ k. refl) (λ k. refl))
   begin-post (PostTail s c) a t y I =
       sim-of g end b (beginPost a t) (world h (PortState.withPoster p (PostTail s c)) m) x (byPortOnly (world h (PortState.withPoster p (PostTail s c)) m)) (post-begun (PostTail s c) a t (g .area) (I .go) (I .port-runs))
-      (still (beginPost a t) (world h (PortState.withPoster p (PostTail s c)) m) I _ refl refl)
+      (still (beginPost a t) (world h (PortState.withPoster p (PostTail s c)) m) I _ refl refl refl (λ k j. refl) (λ k. refl) (λ k. refl))
   begin-post NoPost a t y I =
       sim-of g end b (beginPost a t) w x (byPortOnly w) (post-begun NoPost a t (g .area) (I .go) (I .port-runs)) (by (leb (length t) 60) refl (a && eqb (p .counts .unanswered) 0) refl)
     where
@@ -256,8 +275,8 @@ module _ (g : Site) (end : ℕ) (b : Bounds) (S′ : Setting g end b) (h : Host)
       open-one false e k = absurd (mathlib.Core.Bool.false≢true k)
 
       by : (o : Bool) → leb (length t) 60 ≡ o → (u : Bool) → (a && eqb (p .counts .unanswered) 0) ≡ u → Sim g end b (beginPost a t) w x (byPortOnly w (postWith (PortState.withPoster p NoPost) a t))
-      by false e u k = rw e (still (beginPost a t) w I (byPortOnly w (record { told = refusal 3; state = PortState.withPoster p NoPost })) refl (rw e))
-      by true e true k = rw (e, k) (still (beginPost a t) w I (byPortOnly w (record { told = refusal 4; state = PortState.withPoster p NoPost })) refl (rw (e, k)))
+      by false e u k = rw e (still (beginPost a t) w I (byPortOnly w (record { told = refusal 3; state = PortState.withPoster p NoPost })) refl (rw e) refl (λ k j. refl) (λ k. refl) (λ k. refl))
+      by true e true k = rw (e, k) (still (beginPost a t) w I (byPortOnly w (record { told = refusal 4; state = PortState.withPoster p NoPost })) refl (rw (e, k)) refl (λ k j. refl) (λ k. refl) (λ k. refl))
       by true e false k =
           rw (e, k)
           record {
@@ -283,6 +302,10 @@ module _ (g : Site) (end : ℕ) (b : Bounds) (S′ : Setting g end b) (h : Host)
                 };
             same = rw (e, k);
             ran = λ l r. r;
+            calm = refl;
+            timed = λ k j u v. refl;
+            fetch-counted = λ k u. u;
+            post-counted = λ k u. refl;
           }
 
   ---------------------------------------------------------------- indicators and SA
@@ -299,28 +322,13 @@ module _ (g : Site) (end : ℕ) (b : Bounds) (S′ : Setting g end b) (h : Host)
       record {
         moment = later;
         past = x;
-        inv =
-            record {
-              host-area = I .host-area;
-              host-pool = I .host-pool;
-              host-runs = I .host-runs;
-              host-ready = I .host-ready;
-              go = I .go;
-              port-runs = I .port-runs;
-              limit = I .limit;
-              size = size-kept g end m (addr g (markWord r)) 0 (I .size);
-              commands = quiet-mark g end F m (I .size) Command (h .counts .send) (p .counts .fetch) (x .sent) (x .fetched) (x .fetched) (I .commands) r 0;
-              responses = quiet-mark g end F m (I .size) Response (p .counts .post) (h .counts .take) (x .posted) (x .taken) _ (I .responses) r 0;
-              send = send-frame g (view g m) (view g m′) h h x x (h .sender) refl refl (omega arith) refl refl (omega arith)
-                  (λ o l. kept g end F m (I .size) (markWord r) (envWord Command (h .counts .send) o) 0 (mark-env g end F r Command (h .counts .send) o (rw (I .commands .giver) (slot-lt g Command (length (x .sent))), l))) (I .send);
-              take = I .take;
-              fetch = I .fetch;
-              post = post-frame g (view g m) (view g m′) p p x x (p .poster) refl refl refl (omega arith) refl refl (omega arith)
-                  (λ z o l. kept g end F m (I .size) (markWord r) (envWord Response (p .counts .post) o) 0 (mark-env g end F r Response (p .counts .post) o (rw (I .responses .giver) (slot-lt g Response (length (x .posted))), l))) (I .post);
-              sum = I .sum;
-            };
+        inv = marked g end b S′ h p (p .fetcher) (p .poster) m x I r 0 (p .fetcher) (p .poster) (I .fetch) (post-stays g end b S′ h p (p .fetcher) (p .poster) m x I r 0 (p .fetcher));
         same = refl;
         ran = λ l r. r;
+        calm = refl;
+        timed = λ k j u v. refl;
+        fetch-counted = λ k u. u;
+        post-counted = λ k u. u;
       }
 
   sa-zero : (a : Area) (go : ℕ) → p .phase ≡ Running a go → saOf p ≡ 0
@@ -342,14 +350,14 @@ module _ (g : Site) (end : ℕ) (b : Bounds) (S′ : Setting g end b) (h : Host)
   pub read : Inv g end b (world h p m) x → Sim g end b readSa (world h p m) x (act (g .bits) readSa (world h p m))
   read I =
       sim-of g end b readSa (world h p m) x (λ (v : ℕ). Rattle.traffic.specs.World.did (Rattle.traffic.specs.World.word v) (world h p m)) (sa-zero (g .area) (I .go) (I .port-runs))
-      (still readSa (world h p m) I _ refl refl)
+      (still readSa (world h p m) I _ refl refl refl (λ k j. refl) (λ k. refl) (λ k. refl))
 
   pub write : (v : ℕ) → Inv g end b (world h p m) x → Sim g end b (writeSa v) (world h p m) x (act (g .bits) (writeSa v) (world h p m))
   write v I =
-      sim-of g end b (writeSa v) (world h p m) x (byPort (world h p m)) (sa-ignored (g .area) (I .go) v (I .port-runs)) (still (writeSa v) (world h p m) I _ refl refl)
+      sim-of g end b (writeSa v) (world h p m) x (byPort (world h p m)) (sa-ignored (g .area) (I .go) v (I .port-runs)) (still (writeSa v) (world h p m) I _ refl refl refl (λ k j. refl) (λ k. refl) (λ k. refl))
 
   pub show : (v : ℕ) → Inv g end b (world h p m) x → Sim g end b (showSa v) (world h p m) x (act (g .bits) (showSa v) (world h p m))
-  show v I = sim-of g end b (showSa v) (world h p m) x (byTurn (world h p m)) (shown-is v (I .host-runs)) (still (showSa v) (world h p m) I _ refl refl)
+  show v I = sim-of g end b (showSa v) (world h p m) x (byTurn (world h p m)) (shown-is v (I .host-runs)) (still (showSa v) (world h p m) I _ refl refl refl (λ k j. refl) (λ k. refl) (λ k. refl))
 
   pub late : Inv g end b (world h p m) x → Sim g end b timeIsUp (world h p m) x (act (g .bits) timeIsUp (world h p m))
-  late I = sim-of g end b timeIsUp (world h p m) x (byTurn (world h p m)) (late-is (I .host-runs)) (still timeIsUp (world h p m) I _ refl refl)
+  late I = sim-of g end b timeIsUp (world h p m) x (byTurn (world h p m)) (late-is (I .host-runs)) (still timeIsUp (world h p m) I _ refl refl refl (λ k j. refl) (λ k. refl) (λ k. refl))

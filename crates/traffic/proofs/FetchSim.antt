@@ -1,38 +1,36 @@
 -- The fetch side's step, stage by stage. It takes effect where it writes the high word; its refusal where it looks; its answer is told
 -- then, or at the end of its tail. Assumes nothing.
-use Prim.Native.Nat.{ℕ, suc, _+_, _*_, _-_, _/_, _%_, _^_, _<_, _≤_, min}
-use mathlib.Core.Path.{_≡_, refl, sym, ap, ap₂, subst, _∙_}
-use mathlib.Core.Bool.{Bool, true, false, cond, not, _&&_}
-use mathlib.Core.List.{List, [], _∷_, _++_}
-use mathlib.Core.Logic.{_⊎_, inl, inr}
+use Prim.Native.Nat.{ℕ, suc, _+_, _*_, _-_, _%_, _<_, _≤_, min}
+use mathlib.Core.Path.{_≡_, refl, sym, ap, _∙_}
+use mathlib.Core.Bool.{Bool, true, false}
+use mathlib.Core.List.{List, [], _∷_}
+use mathlib.Core.Logic.{inl, inr}
 use native.Mathlib.Omega.{arith}
-use lib.Dec.{leb, ltb, eqb}
-use lib.ListN.{length, getD, drop, length-drop, length-append}
+use lib.ListN.{length, drop}
 use borrow.Author.Tests.{lt-ltb, le-ltb, le-leb}
-use Rattle.words.specs.Fields.{of, isSet, owner, flagged, addressHigh, connection, messageType, credits}
-use Rattle.words.specs.Words.{addressOf, lowWord, highWord, headerWord}
-use Rattle.texts.specs.Texts.{wordsOf, wordOf, withText, padded, zeros}
+use Rattle.words.specs.Fields.{of, isSet, owner, flagged, connection, messageType, credits}
+use Rattle.words.specs.Words.{addressOf, highWord}
+use Rattle.texts.specs.Texts.{wordsOf, withText}
 use Rattle.memory.specs.Memory.{Memory, usable, withWord}
 use Rattle.memory.specs.OneWord.{found, left}
-use Rattle.memory.specs.declared.Word.{Word}
 use Rattle.memory.specs.declared.Word.the-variants.{Value}
 use Rattle.memory.specs.declared.Touch.{Touch}
 use Rattle.memory.specs.declared.Touch.the-variants.{Read, Write}
-use Rattle.answers.specs.Told.{told, carried, going}
+use Rattle.answers.specs.Told.{told, carried}
 use Rattle.rules.specs.Rules.{faultOf}
 use Rattle.rules.specs.declared.Fault.the-variants.{Sound}
 use Rattle.rules.proofs.Laws.{sound}
-use Rattle.area.specs.Layout.{slots, slotAt, nextOf, beforeOf, envelopeAt, hasVector, indicator}
+use Rattle.area.specs.Layout.{slots, nextOf, beforeOf, envelopeAt, hasVector, indicator}
 use Rattle.area.specs.declared.Area.{Area}
 use Rattle.area.specs.declared.Ring.the-variants.{Command, Response}
-use Rattle.layout.specs.Facts.{rings, rings′, slots-apart, AreaFacts}
-use Rattle.layout.proofs.Rings.{slots-some, lt-or-ge, same-or-not, every-layout}
-use Rattle.plain.specs.Plain.{Entry, entry, Bounds, Plain, got}
-use Rattle.plain.specs.Log.{Op, fetches, Log, Ran, creditsIn}
+use Rattle.layout.specs.Facts.{rings, slots-apart, AreaFacts}
+use Rattle.layout.proofs.Rings.{lt-or-ge, same-or-not, every-layout}
+use Rattle.plain.specs.Plain.{Entry, Bounds}
+use Rattle.plain.specs.Log.{fetches}
 use Rattle.port.specs.State as PortState
 use Rattle.port.specs.State.{with-memory, withFetcher, withIncoming, withCounts, withHigh, withEnvelope, withSize, withAt}
 use Rattle.port.specs.Tail.{tailStart, tailTouch, tailAfter}
-use Rattle.port.specs.Fetch.{fetchTouch, refuseFetch, fetchHigh, fetchLow, fetchOn, creditOut, fetchHeader, fetchText, fetched, fetchClosed, fetchRelease, fetchSeen, fetchAfter, fetchTailed, fetchStep}
+use Rattle.port.specs.Fetch.{fetchTouch, refuseFetch, fetchHigh, fetchLow, fetchOn, fetchHeader, fetchText, fetched, fetchRelease, fetchSeen, fetchAfter, fetchTailed, fetchStep}
 use Rattle.port.specs.declared.state.Cursor.{Cursor}
 use Rattle.port.specs.declared.state.Stage.{Stage}
 use Rattle.port.specs.declared.state.Stage.the-variants as S
@@ -43,18 +41,19 @@ use Rattle.port.specs.declared.state.Fetcher.{Fetcher}
 use Rattle.port.specs.declared.state.Fetcher.the-variants.{NoFetch, Fetching, FetchTail}
 use Rattle.port.specs.declared.state.Port.{Port}
 use Rattle.host.specs.declared.state.Host.{Host}
-use Rattle.traffic.specs.Places.{Place, slotWord, envWord, markWord, Site, addr, view}
-use Rattle.traffic.specs.Rings.{Letter, blank, RingInv}
+use Rattle.traffic.specs.Places.{slotWord, envWord, markWord, Site, addr, view}
+use Rattle.traffic.specs.Rings.{Letter}
 use Rattle.traffic.specs.Got.{Got}
-use Rattle.traffic.specs.World.{World, world, Ev, stepFetch, Did, byPort}
-use Rattle.traffic.specs.Play.{Moment}
-use Rattle.traffic.specs.Invariant.{Past, Found, nextCommand, FetchOn, FetchEnd, FetchInv, wholeFrom, Inv, Setting, plainOf, playOf}
-use Rattle.traffic.proofs.Place.{Far, far-sym, slots-far, words-far, envs-far, slot-env, mark-slot, mark-env, reads, writes, stored, kept}
-use Rattle.traffic.proofs.RingLaws.{same-place, slot-lt, release, taker-some, taker-none}
+use Rattle.traffic.specs.World.{World, world, stepFetch, byPort}
+use Rattle.traffic.specs.Watch.{oldestSize}
+use Rattle.traffic.specs.Invariant.{Past, Found, nextCommand, FetchInv, Inv, Setting, plainOf}
+use Rattle.traffic.proofs.Place.{far-sym, slots-far, words-far, slot-env, reads, writes, stored, kept}
+use Rattle.traffic.proofs.RingLaws.{slot-lt, release, taker-some, taker-none}
 use Rattle.traffic.proofs.TextLaws.{got-none, got-more, got-all}
-use Rattle.traffic.proofs.Frames.{size-kept, quiet-mark, quiet-slot, send-frame, post-frame}
+use Rattle.traffic.proofs.Frames.{size-kept, quiet-slot, send-frame, post-frame}
+use Rattle.traffic.proofs.Marks.{marked, post-stays}
 use Rattle.traffic.proofs.PlainLaws.{fetch-7, fetch-ok, left-none, left-some}
-use Rattle.traffic.proofs.Sim.{Sim, later, now, sim-of, ran-does}
+use Rattle.traffic.proofs.Sim.{Sim, stepsTo, later, now, untold, not-yet, due, sim-of, ran-does}
 use Rattle.traffic.proofs.WordLaws.{high-owner, high-upper, high-lt, address-is, header-type, header-connection}
 
 -- a step of a running port whose touch finds a word
@@ -157,7 +156,7 @@ module _ (g : Site) (end : ℕ) (b : Bounds) (S′ : Setting g end b) (h : Host)
   no-fetch : Inv g end b (world h (withFetcher p NoFetch) m) x → Sim g end b stepFetch (world h (withFetcher p NoFetch) m) x (byPort (world h (withFetcher p NoFetch) m) (fetchStep (g .bits) (withFetcher p NoFetch) m))
   no-fetch I =
       sim-of g end b stepFetch (world h (withFetcher p NoFetch) m) x (byPort (world h (withFetcher p NoFetch) m)) (fetch-idle (g .bits) p (g .area) (I .go) m (I .port-runs))
-      record { moment = later; past = x; inv = I; same = refl; ran = λ l r. r }
+      record { moment = now; past = x; inv = I; same = refl; ran = λ l r. r; calm = refl; timed = λ k j u v. refl; fetch-counted = λ k u. u; post-counted = λ k u. u }
 
   high : (c : Cursor) → Inv g end b (world h (withFetcher p (Fetching S.High c)) m) x
       → Sim g end b stepFetch (world h (withFetcher p (Fetching S.High c)) m) x (byPort (world h (withFetcher p (Fetching S.High c)) m) (fetchStep (g .bits) (withFetcher p (Fetching S.High c)) m))
@@ -185,6 +184,10 @@ module _ (g : Site) (end : ℕ) (b : Bounds) (S′ : Setting g end b) (h : Host)
             inv = with-fetch (Fetching S.High c) I (p .incoming) NoFetch tt;
             same = rw (fetch-7 b (plainOf w x) none);
             ran = ran-does b (plainOf w x) fetches tt _ (fetch-7 b (plainOf w x) none);
+            calm = refl;
+            timed = λ k j u v. refl;
+            fetch-counted = λ k u. tt;
+            post-counted = λ k u. u;
           }
       by true e =
           let some : x .fetched < length (x .sent) =
@@ -201,6 +204,10 @@ module _ (g : Site) (end : ℕ) (b : Bounds) (S′ : Setting g end b) (h : Host)
                 };
             same = refl;
             ran = λ l r. r;
+            calm = refl;
+            timed = λ k j u v. not-yet k _ (omega (arith, u));
+            fetch-counted = λ k u. ap suc u;
+            post-counted = λ k u. u;
           }
 
   -- the letter that is being fetched
@@ -228,6 +235,10 @@ module _ (g : Site) (end : ℕ) (b : Bounds) (S′ : Setting g end b) (h : Host)
             record { slot = I .fetch .slot; progress = (I .fetch .progress .0, (I .fetch .progress .1, ap (λ (k : ℕ). envelopeAt (g .area) (g .pool) Command k) (sym (I .fetch .slot)))) };
         same = refl;
         ran = λ l r. r;
+        calm = refl;
+        timed = λ k j u v. not-yet k _ (omega (arith, u));
+        fetch-counted = λ k u. ap suc u;
+        post-counted = λ k u. u;
       }
 
   len : (c : Cursor) → Inv g end b (world h (withFetcher p (Fetching S.Length c)) m) x
@@ -246,15 +257,23 @@ module _ (g : Site) (end : ℕ) (b : Bounds) (S′ : Setting g end b) (h : Host)
             record { slot = I .fetch .slot; progress = (P .0, (P .1 .0, (P .1 .1, L .len))) };
         same = refl;
         ran = λ l r. r;
+        calm = refl;
+        timed = λ k j u v. not-yet k _ (omega (arith, u));
+        fetch-counted = λ k u. ap suc u;
+        post-counted = λ k u. u;
       }
+
+  -- the oldest command in the queue is the one that is fetched
+  oldest-size : x .fetched < length (x .sent) → oldestSize (drop (x .fetched) (x .sent)) ≡ length (nextCommand x .text)
+  oldest-size l = ap oldestSize (left-some (x .sent) (x .fetched) l)
 
   -- text word k next, or the release
   on-sim : (s : Stage) (c : Cursor) (room : List ℕ) (k : ℕ) → (I : Inv g end b (world h (withFetcher p (Fetching s c)) m) x)
       → Found g Command (c .slot) (c .high) (x .sent) (x .fetched) → Got room (nextCommand x .text) k → c .envelope ≡ envelopeAt (g .area) (g .pool) Command (c .slot)
-      → c .size ≡ length (nextCommand x .text) → length (nextCommand x .text) ≤ 60
+      → c .size ≡ length (nextCommand x .text) → length (nextCommand x .text) ≤ 60 → k ≤ wordsOf (length (nextCommand x .text)) → stepsTo s c ≡ 3 + k
       → fetchStep (g .bits) (withFetcher p (Fetching s c)) m ≡ with-memory (PortState.onward (withFetcher (withIncoming p room) (fetchOn c k))) m
       → Sim g end b stepFetch (world h (withFetcher p (Fetching s c)) m) x (byPort (world h (withFetcher p (Fetching s c)) m) (fetchStep (g .bits) (withFetcher p (Fetching s c)) m))
-  on-sim s c room k I fo gt en si sh e =
+  on-sim s c room k I fo gt en si sh le st e =
       elim (lt-or-ge k (wordsOf (c .size))) [
         | inl more ↦
             sim-of g end b stepFetch (world h (withFetcher p (Fetching s c)) m) x (byPort (world h (withFetcher p (Fetching s c)) m))
@@ -265,6 +284,10 @@ module _ (g : Site) (end : ℕ) (b : Bounds) (S′ : Setting g end b) (h : Host)
               inv = with-fetch (Fetching s c) I room (Fetching S.Text (withAt c k)) record { slot = I .fetch .slot; progress = (fo, (gt, (en, (si, rw (← si) more)))) };
               same = refl;
               ran = λ l r. r;
+              calm = refl;
+              timed = λ i j u v. not-yet i _ (omega (arith, u, st, le, ap wordsOf (oldest-size (fo .some))));
+              fetch-counted = λ i u. omega (arith, u, st);
+              post-counted = λ i u. u;
             }
         | inr none ↦
             sim-of g end b stepFetch (world h (withFetcher p (Fetching s c)) m) x (byPort (world h (withFetcher p (Fetching s c)) m))
@@ -275,6 +298,10 @@ module _ (g : Site) (end : ℕ) (b : Bounds) (S′ : Setting g end b) (h : Host)
               inv = with-fetch (Fetching s c) I room (Fetching S.Release c) record { slot = I .fetch .slot; progress = (fo, (got-all room (nextCommand x .text) k sh (rw (← si) none) gt, si)) };
               same = refl;
               ran = λ l r. r;
+              calm = refl;
+              timed = λ i j u v. not-yet i _ (omega (arith, u, st, le, ap wordsOf (oldest-size (fo .some))));
+              fetch-counted = λ i u. omega (arith, u, st, none, le, ap wordsOf si);
+              post-counted = λ i u. u;
             }
       ]
 
@@ -291,7 +318,7 @@ module _ (g : Site) (end : ℕ) (b : Bounds) (S′ : Setting g end b) (h : Host)
       let v : ℕ = view g m (envWord Command i 2) in
       let L = fetching (Fetching S.Header c) I (P .0 .some) in
       let si : c .size ≡ length (nextCommand x .text) = P .1 .1 .1 in
-      on-sim S.Header c (p .incoming) 0 I (P .0) (rw (P .1 .0) (got-none (nextCommand x .text))) (P .1 .1 .0) si (L .short)
+      on-sim S.Header c (p .incoming) 0 I (P .0) (rw (P .1 .0) (got-none (nextCommand x .text))) (P .1 .1 .0) si (L .short) (omega arith) (omega arith)
       (fetch-at (g .bits) p (g .area) (I .go) m S.Header c (Read (addr g (envWord Command i 2))) v (I .port-runs)
       (touch-head c (I .fetch .slot) (P .1 .1 .0)) (reads g end F m (I .size) (envWord Command i 2) (at, omega arith))
       ∙ header-on p m (usable (g .bits) (length m)) c v
@@ -312,7 +339,7 @@ module _ (g : Site) (end : ℕ) (b : Bounds) (S′ : Setting g end b) (h : Host)
       let v : ℕ = view g m (envWord Command (p .counts .fetch) (4 + 2 * c .at)) in
       let t : List ℕ = nextCommand x .text in
       on-sim S.Text c (withText (p .incoming) (c .size) (c .at) v) (c .at + 1) I (P .0)
-      (rw (P .1 .1 .1 .0, L .words (c .at) few) (got-more (p .incoming) t (c .at) (L .bytes) (L .short) (P .1 .0) few)) (P .1 .1 .0) (P .1 .1 .1 .0) (L .short)
+      (rw (P .1 .1 .1 .0, L .words (c .at) few) (got-more (p .incoming) t (c .at) (L .bytes) (L .short) (P .1 .0) few)) (P .1 .1 .0) (P .1 .1 .1 .0) (L .short) (omega (arith, few)) (omega arith)
       (fetch-at (g .bits) p (g .area) (I .go) m S.Text c (Read (addr g (envWord Command (p .counts .fetch) (4 + 2 * c .at)))) v (I .port-runs)
       (touch-text c (I .fetch .slot) (P .1 .1 .0))
       (reads g end F m (I .size) (envWord Command (p .counts .fetch) (4 + 2 * c .at)) (here (Fetching S.Text c) I, omega (arith, few, L .short)))
@@ -436,16 +463,24 @@ module _ (g : Site) (end : ℕ) (b : Bounds) (S′ : Setting g end b) (h : Host)
               inv = released NoFetch tt;
               same = rw (fetch-ok b (plainOf w x) (nextCommand x) (drop (suc (x .fetched)) (x .sent)) rest, I .fetch .progress .1 .0, I .fetch .progress .1 .1);
               ran = ran-does b (plainOf w x) fetches tt _ (fetch-ok b (plainOf w x) (nextCommand x) (drop (suc (x .fetched)) (x .sent)) rest);
+              calm = refl;
+              timed = λ k j u v. refl;
+              fetch-counted = λ k u. tt;
+              post-counted = λ k u. u;
             }
         by true e =
             sim-of g end b stepFetch w x (byPort w) (step ∙ release-goes c after (I .fetch .slot) few e)
             record {
-              moment = record { acts = true; tells = false };
+              moment = untold;
               past = one-less;
               inv = released (FetchTail (tailStart (g .area) Command) c)
                   record { slot = rw (I .fetch .slot) at; size = I .fetch .progress .1 .1; text = I .fetch .progress .1 .0 };
               same = rw (fetch-ok b (plainOf w x) (nextCommand x) (drop (suc (x .fetched)) (x .sent)) rest);
               ran = ran-does b (plainOf w x) fetches tt _ (fetch-ok b (plainOf w x) (nextCommand x) (drop (suc (x .fetched)) (x .sent)) rest);
+              calm = refl;
+              timed = λ k j u v. due k _ (u ∙ ap (λ (y : ℕ). 4 + wordsOf y) (I .fetch .progress .1 .1 ∙ sym (oldest-size some)));
+              fetch-counted = λ k u. tt;
+              post-counted = λ k u. u;
             }
 
   -- the tail: the previous slot's test, and the indicator
@@ -498,6 +533,10 @@ module _ (g : Site) (end : ℕ) (b : Bounds) (S′ : Setting g end b) (h : Host)
             inv = with-fetch (FetchTail E.Test c) I (p .incoming) (FetchTail E.Mark c) record { slot = I .fetch .slot; size = I .fetch .size; text = I .fetch .text };
             same = refl;
             ran = λ l r. r;
+            calm = refl;
+            timed = λ k j u v. refl;
+            fetch-counted = λ k u. tt;
+            post-counted = λ k u. u;
           }
       by false e =
           sim-of g end b stepFetch w x (byPort w) (step ∙ test-closes c m word e)
@@ -507,6 +546,10 @@ module _ (g : Site) (end : ℕ) (b : Bounds) (S′ : Setting g end b) (h : Host)
             inv = with-fetch (FetchTail E.Test c) I (p .incoming) NoFetch tt;
             same = rw (I .fetch .size, I .fetch .text);
             ran = λ l r. r;
+            calm = refl;
+            timed = λ k j u v. refl;
+            fetch-counted = λ k u. tt;
+            post-counted = λ k u. u;
           }
 
   mark : (c : Cursor) → Inv g end b (world h (withFetcher p (FetchTail E.Mark c)) m) x
@@ -520,29 +563,13 @@ module _ (g : Site) (end : ℕ) (b : Bounds) (S′ : Setting g end b) (h : Host)
       record {
         moment = now;
         past = x;
-        inv =
-            record {
-              host-area = I .host-area;
-              host-pool = I .host-pool;
-              host-runs = I .host-runs;
-              host-ready = I .host-ready;
-              go = I .go;
-              port-runs = I .port-runs;
-              limit = I .limit;
-              size = size-kept g end m (addr g (markWord Command)) 1 (I .size);
-              commands = quiet-mark g end F m (I .size) Command (h .counts .send) (p .counts .fetch) (x .sent) (x .fetched) (x .fetched) (I .commands) Command 1;
-              responses = quiet-mark g end F m (I .size) Response (p .counts .post) (h .counts .take) (x .posted) (x .taken) _ (I .responses) Command 1;
-              send = send-frame g (view g m) (view g m′) h h x x (h .sender) refl refl (omega arith) refl refl (omega arith)
-                  (λ o l. kept g end F m (I .size) (markWord Command) (envWord Command (h .counts .send) o) 1 (mark-env g end F Command Command (h .counts .send) o (rw (I .commands .giver) (slot-lt g Command (length (x .sent))), l))) (I .send);
-              take = I .take;
-              fetch = tt;
-              post = post-frame g (view g m) (view g m′) (withFetcher p (FetchTail E.Mark c)) (withFetcher p NoFetch) x x (p .poster) refl refl refl (omega arith) refl refl (omega arith)
-                  (λ r o l. kept g end F m (I .size) (markWord Command) (envWord Response (p .counts .post) o) 1 (mark-env g end F Command Response (p .counts .post) o (rw (I .responses .giver) (slot-lt g Response (length (x .posted))), l)))
-                  (I .post);
-              sum = I .sum;
-            };
+        inv = marked g end b S′ h p (FetchTail E.Mark c) (p .poster) m x I Command 1 NoFetch (p .poster) tt (post-stays g end b S′ h p (FetchTail E.Mark c) (p .poster) m x I Command 1 NoFetch);
         same = rw (I .fetch .size, I .fetch .text);
         ran = λ l r. r;
+        calm = refl;
+        timed = λ k j u v. refl;
+        fetch-counted = λ k u. tt;
+        post-counted = λ k u. u;
       }
 
   -- every stage

@@ -1,24 +1,22 @@
 -- After an accepted setup both rings are empty. Assumes nothing.
-use Prim.Native.Nat.{ℕ, _+_, _*_, _/_, _%_, _^_, _<_, _≤_}
-use mathlib.Core.Path.{_≡_, refl, sym, ap, ap₂, _∙_}
+use Prim.Native.Nat.{ℕ, _+_, _%_, _^_, _<_, _≤_}
+use mathlib.Core.Path.{_≡_, sym, ap, ap₂, _∙_}
 use mathlib.Core.Bool.{Bool, true, false, not}
-use mathlib.Core.List.{List, []}
+use mathlib.Core.List.{[]}
 use native.Mathlib.Omega.{arith}
 use native.Mathlib.Nat.{zero-mod}
-use lib.Dec.{ltb}
-use lib.ListN.{length}
 use borrow.Author.Tests.{lt-ltb, le-ltb}
-use Rattle.words.specs.Fields.{of, isSet, owner, addressHigh}
+use Rattle.words.specs.Fields.{of, addressHigh}
 use Rattle.words.specs.Words.{lowWord, withAddress, highWord}
 use Rattle.memory.specs.Memory.{Memory, wordIn}
-use Rattle.area.specs.Layout.{slots, slotCount, base, numberOf, slotAt, ringsEnd, envelopeAt}
+use Rattle.area.specs.Layout.{slots, slotCount, numberOf, slotAt, ringsEnd, envelopeAt}
 use Rattle.area.specs.Setup.{poolEnd, toPort}
 use Rattle.area.specs.declared.Area.{Area}
 use Rattle.area.specs.declared.Ring.{Ring}
 use Rattle.area.specs.declared.Ring.the-variants.{Command, Response}
 use Rattle.layout.specs.Facts.{AreaFacts}
-use Rattle.layout.proofs.Rings.{slots-some, number-lt}
-use Rattle.traffic.specs.Places.{Place, slotWord, Site, addr, view}
+use Rattle.layout.proofs.Rings.{number-lt}
+use Rattle.traffic.specs.Places.{slotWord, Site, view}
 use Rattle.traffic.specs.Rings.{waits, RingInv}
 use Rattle.traffic.proofs.RingLaws.{slot-lt}
 use Rattle.traffic.proofs.SetupLaws.{Picture}

@@ -1,21 +1,18 @@
 -- What each part of the invariant keeps while another side steps. Assumes nothing.
-use Prim.Native.Nat.{ℕ, suc, _+_, _*_, _/_, _%_, _^_, _<_, _≤_}
-use mathlib.Core.Path.{_≡_, refl, sym, ap, subst, _∙_}
-use mathlib.Core.Bool.{Bool, true, false}
+use Prim.Native.Nat.{ℕ, _+_, _*_, _%_, _<_, _≤_}
+use mathlib.Core.Path.{_≡_, sym, ap, subst, _∙_}
 use mathlib.Core.List.{List, [], _∷_, _++_}
-use mathlib.Core.Logic.{_⊎_, inl, inr}
 use native.Mathlib.Omega.{arith}
-use lib.ListN.{length, getD, length-append, List·getD-append}
-use Rattle.words.specs.Fields.{of, addressHigh}
+use lib.ListN.{length, getD, List·getD-append}
+use Rattle.words.specs.Fields.{of}
 use Rattle.texts.specs.Texts.{wordsOf, padded}
 use Rattle.memory.specs.Memory.{Memory, usable, withWord}
 use Rattle.memory.proofs.Laws.{withWord-length}
-use Rattle.area.specs.Layout.{slots, envelopeAt}
+use Rattle.area.specs.Layout.{slots}
 use Rattle.area.specs.declared.Ring.{Ring}
 use Rattle.area.specs.declared.Ring.the-variants.{Command, Response}
-use Rattle.layout.specs.Facts.{Apart, rings, rings′, slots-apart, AreaFacts}
-use Rattle.layout.proofs.Rings.{slots-some}
-use Rattle.plain.specs.Plain.{Entry, entry}
+use Rattle.layout.specs.Facts.{Apart, slots-apart, AreaFacts}
+use Rattle.plain.specs.Plain.{Entry}
 use Rattle.port.specs.Post.{creditsOf}
 use Rattle.port.specs.declared.state.Cursor as PortCursor
 use Rattle.port.specs.declared.state.Stage.the-variants as S
@@ -32,9 +29,9 @@ use Rattle.host.specs.declared.state.Taker.{Taker}
 use Rattle.host.specs.declared.state.Taker.the-variants.{NoTake, Taking}
 use Rattle.host.specs.declared.state.Host.{Host}
 use Rattle.traffic.specs.Places.{Place, slotWord, envWord, markWord, Site, addr, Valid, view}
-use Rattle.traffic.specs.Rings.{Letter, blank, RingInv}
-use Rattle.traffic.specs.Invariant.{Past, Written, MayGive, SendOn, SendInv, Found, FetchOn, FetchEnd, FetchInv, nextCommand, PostRoom, PostOn, PostInv, nextResponse, TakeOn, TakeInv}
-use Rattle.traffic.proofs.Place.{Far, far-sym, slots-far, words-far, envs-far, offsets-far, slot-env, mark-slot, mark-env, kept}
+use Rattle.traffic.specs.Rings.{blank, RingInv}
+use Rattle.traffic.specs.Invariant.{Past, Written, MayGive, SendInv, Found, FetchInv, nextCommand, PostRoom, PostInv, nextResponse, TakeInv}
+use Rattle.traffic.proofs.Place.{Far, far-sym, slots-far, envs-far, slot-env, mark-slot, mark-env, kept}
 use Rattle.traffic.proofs.RingLaws.{same-place, slot-lt, quiet}
 
 -- memory keeps its usable length

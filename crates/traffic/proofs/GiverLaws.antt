@@ -1,8 +1,8 @@
 -- A giver writes its envelope word by word, whichever ring it is; written whole, it is a letter. Assumes nothing.
-use Prim.Native.Nat.{ℕ, suc, _+_, _*_, _<_, _≤_}
-use mathlib.Core.Path.{_≡_, refl, sym, ap, _∙_}
+use Prim.Native.Nat.{ℕ, _+_, _*_, _<_, _≤_}
+use mathlib.Core.Path.{_≡_, _∙_}
 use mathlib.Core.List.{List}
-use mathlib.Core.Logic.{_⊎_, inl, inr}
+use mathlib.Core.Logic.{inl, inr}
 use native.Mathlib.Omega.{arith}
 use lib.ListN.{length}
 use Rattle.words.specs.Words.{headerWord}
@@ -12,12 +12,12 @@ use Rattle.area.specs.Layout.{slots}
 use Rattle.area.specs.declared.Ring.{Ring}
 use Rattle.layout.specs.Facts.{AreaFacts}
 use Rattle.layout.proofs.Rings.{same-or-not}
-use Rattle.plain.specs.Plain.{Entry, entry}
-use Rattle.traffic.specs.Places.{Place, slotWord, envWord, Site, addr, view}
+use Rattle.plain.specs.Plain.{entry}
+use Rattle.traffic.specs.Places.{Place, envWord, Site, addr, view}
 use Rattle.traffic.specs.Rings.{Letter}
 use Rattle.traffic.specs.World.{Bytes}
 use Rattle.traffic.specs.Invariant.{Written}
-use Rattle.traffic.proofs.Place.{Far, offsets-far, stored, kept}
+use Rattle.traffic.proofs.Place.{offsets-far, stored, kept}
 use Rattle.traffic.proofs.TextLaws.{word-lt}
 use Rattle.traffic.proofs.WordLaws.{header-lt}
 

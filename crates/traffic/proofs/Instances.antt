@@ -1,8 +1,7 @@
 -- A start for every pair of exponents, and a mixed run computed. Assumes nothing.
-use Prim.Native.Nat.{ℕ, _+_, _*_, _-_, _<_, _≤_}
+use Prim.Native.Nat.{ℕ, _+_, _*_, _≤_}
 use mathlib.Core.Path.{_≡_, refl, sym, ap, subst, _∙_}
-use mathlib.Core.Bool.{Bool, true, false, cond, _&&_}
-use mathlib.Core.List.{[]}
+use mathlib.Core.Bool.{Bool, true, false}
 use native.Mathlib.Omega.{arith}
 use lib.ListN.{length}
 use borrow.Author.Tests.{le-leb, lt-leb}
@@ -21,22 +20,18 @@ use Rattle.host.specs.Setup.{setUpBy}
 use Rattle.host.specs.Send.{sendTouch, sendLook, sendOn, sent, sendAfter, sendStep, sendBegun}
 use Rattle.host.specs.Take.{takeTouch, takeLook, takeOn, takeHeader, takeText, taken, takeClosed, takeAfter, takeStep, takeBegun}
 use Rattle.meeting.specs.Meeting.{opened, exchange, exchanges}
-use Rattle.meeting.specs.Meeting.{Pair, running}
+use Rattle.meeting.specs.Meeting.{Pair}
 use Rattle.meeting.proofs.Meet.{every-meeting}
 use Rattle.answers.specs.Told.{told, done}
 use Rattle.words.specs.Words.{addressBits}
 use Rattle.memory.specs.Memory.{Memory}
-use Rattle.memory.proofs.Laws.{usable-le, lies-yes, cleared-length}
-use Rattle.area.specs.Layout.{slotCount, ringsEnd, lead}
-use Rattle.area.specs.Setup.{poolEnd}
-use Rattle.area.specs.declared.Area.{Area}
+use Rattle.memory.proofs.Laws.{lies-yes, cleared-length}
+use Rattle.area.specs.Layout.{slotCount}
 use Rattle.area.specs.declared.Ring.the-variants.{Command, Response}
 use Rattle.layout.proofs.Rings.{slots-some, slots-most}
 use Rattle.host.specs.State as HostState
 use Rattle.host.specs.Shake.{areaOf}
-use Rattle.host.specs.declared.state.Beginning.{Beginning}
 use Rattle.host.specs.declared.state.Shake.the-variants.{Finished}
-use Rattle.traffic.specs.Traffic.{Start}
 use Rattle.traffic.specs.Instance.{settings, EveryPair, MixedRun}
 use Rattle.traffic.proofs.Demand.{setup-is}
 

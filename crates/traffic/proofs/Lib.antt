@@ -2,6 +2,7 @@ pub mod Place
 pub mod RingLaws
 pub mod TextLaws
 pub mod Frames
+pub mod Marks
 pub mod PlainLaws
 pub mod Sim
 pub mod WordLaws
@@ -17,3 +18,4 @@ pub mod FirstRings
 pub mod Begin
 pub mod Demand
 pub mod Instances
+pub mod ShutOut

@@ -1,22 +1,20 @@
 -- Places of an accepted setup lie in memory and keep clear of each other, so a write at one changes no other. The one file with
 -- addresses and bytes. Assumes nothing.
-use Prim.Native.Nat.{ℕ, _+_, _*_, _-_, _%_, _/_, _<_, _≤_}
-use mathlib.Core.Path.{_≡_, refl, sym, ap, _∙_}
+use Prim.Native.Nat.{ℕ, _+_, _<_, _≤_}
+use mathlib.Core.Path.{_≡_, sym}
 use mathlib.Core.Bool.{true}
 use mathlib.Core.Logic.{_⊎_, inl, inr}
 use native.Mathlib.Omega.{arith}
 use lib.ListN.{length}
-use Rattle.memory.specs.Memory.{Memory, usable, inside, wordIn, wordAt, withWord}
-use Rattle.memory.specs.OneWord.{found, left}
+use Rattle.memory.specs.Memory.{Memory, usable, inside, withWord}
+use Rattle.memory.specs.OneWord.{found}
 use Rattle.memory.specs.declared.Word.the-variants.{Value}
 use Rattle.memory.specs.declared.Touch.the-variants.{Read, Write}
-use Rattle.memory.proofs.Laws.{inside-yes, wordAt-yes, withWord-length, withWord-low, withWord-high, wordIn-other}
-use Rattle.area.specs.Layout.{slots, base, slotAt, ringsEnd, indicatorBack, envelopeAt}
-use Rattle.area.specs.Setup.{poolEnd}
-use Rattle.area.specs.declared.Area.{Area}
+use Rattle.memory.proofs.Laws.{inside-yes, wordAt-yes, withWord-low, withWord-high, wordIn-other}
+use Rattle.area.specs.Layout.{slots, indicatorBack}
 use Rattle.area.specs.declared.Ring.{Ring}
 use Rattle.area.specs.declared.Ring.the-variants.{Command, Response}
-use Rattle.layout.specs.Facts.{Clear, Apart, rings, rings′, slots-apart, AreaFacts}
+use Rattle.layout.specs.Facts.{Clear, Apart, AreaFacts}
 use Rattle.traffic.specs.Places.{Place, slotWord, envWord, markWord, Site, addr, Valid, view}
 
 -- two places of two bytes each that do not meet

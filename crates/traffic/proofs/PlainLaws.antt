@@ -1,15 +1,14 @@
 -- The plain machine's operations by their tests, and its queues as what is left of the history. Assumes nothing.
 use Prim.Native.Nat.{ℕ, suc, _+_, _-_, _<_, _≤_}
-use mathlib.Core.Path.{_≡_, refl, sym, ap, _∙_}
-use mathlib.Core.Bool.{Bool, true, false, cond}
+use mathlib.Core.Path.{_≡_}
+use mathlib.Core.Bool.{Bool, cond}
 use mathlib.Core.List.{List, [], _∷_, _++_}
 use native.Mathlib.Omega.{arith}
-use lib.Dec.{leb, eqb}
-use lib.ListN.{length, getD, drop, drop-of-length-le, length-drop, length-append}
+use lib.ListN.{length, getD, drop, drop-of-length-le, length-drop}
 use lib.Seq.{drop-append-le, drop-cons}
 use borrow.Author.Tests.{eq-eqb, ne-eqb, le-leb, lt-leb}
 use Rattle.rules.specs.Rules.{carriedOf, leftOf}
-use Rattle.plain.specs.Plain.{Entry, entry, Bounds, Plain, Closed, done, got, refused, Result, result, send, fetch, post, take}
+use Rattle.plain.specs.Plain.{Entry, entry, Bounds, Plain, done, got, refused, result, full, send, fetch, post, take}
 use Rattle.traffic.specs.Rings.{blank}
 
 module _ (b : Bounds) (x : Plain) where
@@ -18,14 +17,14 @@ module _ (b : Bounds) (x : Plain) where
   send-5 t e = rw (eq-eqb (x .account) 0 e)
 
   pub send-6 : (t : List ℕ) → (x .account ≡ 0 → ⊥) → b .commands ≤ length (x .commands) → send b t x ≡ result (refused 6) x
-  unfolding send
+  unfolding send full
   send-6 t e h = rw (ne-eqb (x .account) 0 e, le-leb (b .commands) (length (x .commands)) h)
 
   pub send-ok : (t : List ℕ) → (x .account ≡ 0 → ⊥) → length (x .commands) < b .commands
       → send b t x
       ≡ result done
       (record { commands = x .commands ++ (entry t 0 ∷ []); responses = x .responses; account = x .account - 1; unanswered = x .unanswered; owed = x .owed })
-  unfolding send
+  unfolding send full
   send-ok t e h = rw (ne-eqb (x .account) 0 e, lt-leb (b .commands) (length (x .commands)) h)
 
   pub fetch-7 : x .commands ≡ [] → fetch x ≡ result (refused 7) x
@@ -38,7 +37,7 @@ module _ (b : Bounds) (x : Plain) where
   fetch-ok e es q = rw q
 
   pub post-8 : (a : Bool) (t : List ℕ) → b .responses ≤ length (x .responses) → post b a t x ≡ result (refused 8) x
-  unfolding post
+  unfolding post full
   post-8 a t h = rw (le-leb (b .responses) (length (x .responses)) h)
 
   pub post-ok : (a : Bool) (t : List ℕ) → length (x .responses) < b .responses
@@ -51,7 +50,7 @@ module _ (b : Bounds) (x : Plain) where
         unanswered = cond a (x .unanswered - 1) (x .unanswered);
         owed = cond a (leftOf (x .owed)) (x .owed);
       })
-  unfolding post
+  unfolding post full
   post-ok a t h = rw (lt-leb (b .responses) (length (x .responses)) h)
 
   pub take-7 : x .responses ≡ [] → take x ≡ result (refused 7) x

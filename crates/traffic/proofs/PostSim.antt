@@ -1,33 +1,31 @@
 -- The post side's step, stage by stage. It takes effect where it writes the high word; its refusal where it looks; its answer is told
 -- then, or at the end of its tail. Assumes nothing.
-use Prim.Native.Nat.{ℕ, suc, _+_, _*_, _-_, _/_, _%_, _^_, _<_, _≤_, min}
-use mathlib.Core.Path.{_≡_, refl, sym, ap, ap₂, subst, _∙_}
-use mathlib.Core.Bool.{Bool, true, false, cond, not, _&&_}
+use Prim.Native.Nat.{ℕ, suc, _+_, _*_, _-_, _%_, _<_, _≤_}
+use mathlib.Core.Path.{_≡_, refl, sym, ap, subst, _∙_}
+use mathlib.Core.Bool.{Bool, true, false, cond, not}
 use mathlib.Core.List.{List, [], _∷_, _++_}
-use mathlib.Core.Logic.{_⊎_, inl, inr}
+use mathlib.Core.Logic.{inl, inr}
 use native.Mathlib.Omega.{arith}
-use lib.Dec.{leb, ltb, eqb}
-use lib.ListN.{length, getD, drop, length-drop, length-append}
+use lib.ListN.{length, drop, length-append}
 use borrow.Author.Tests.{lt-ltb, le-ltb, le-leb}
 use Rattle.words.specs.Fields.{of, isSet, owner, flagged, addressHigh}
-use Rattle.words.specs.Words.{addressOf, lowWord, highWord, headerWord}
+use Rattle.words.specs.Words.{addressOf, highWord, headerWord}
 use Rattle.texts.specs.Texts.{wordsOf, wordOf, padded}
 use Rattle.memory.specs.Memory.{Memory, usable, withWord}
 use Rattle.memory.specs.OneWord.{found, left}
-use Rattle.memory.specs.declared.Word.{Word}
 use Rattle.memory.specs.declared.Word.the-variants.{Value}
 use Rattle.memory.specs.declared.Touch.{Touch}
 use Rattle.memory.specs.declared.Touch.the-variants.{Read, Write}
-use Rattle.answers.specs.Told.{told, done, going}
+use Rattle.answers.specs.Told.{told, done}
 use Rattle.rules.specs.Rules.{carriedOf, leftOf}
 use Rattle.rules.proofs.Laws.{carried-bounds, nothing-lost}
-use Rattle.area.specs.Layout.{slots, slotAt, nextOf, beforeOf, envelopeAt, hasVector, indicator}
+use Rattle.area.specs.Layout.{slots, nextOf, beforeOf, envelopeAt, hasVector, indicator}
 use Rattle.area.specs.declared.Area.{Area}
 use Rattle.area.specs.declared.Ring.the-variants.{Command, Response}
-use Rattle.layout.specs.Facts.{rings, rings′, slots-apart, AreaFacts}
-use Rattle.layout.proofs.Rings.{slots-some, lt-or-ge, same-or-not, every-layout}
-use Rattle.plain.specs.Plain.{Entry, entry, Bounds, Plain}
-use Rattle.plain.specs.Log.{Op, posts, does, noted, Allowed, Log, Ran, creditsIn}
+use Rattle.layout.specs.Facts.{rings′, slots-apart, AreaFacts}
+use Rattle.layout.proofs.Rings.{lt-or-ge, same-or-not, every-layout}
+use Rattle.plain.specs.Plain.{Entry, entry, Bounds}
+use Rattle.plain.specs.Log.{posts, does, noted, Allowed, Log, Ran, creditsIn}
 use Rattle.plain.proofs.InOrder.{credits-more}
 use Rattle.port.specs.State as PortState
 use Rattle.port.specs.State.{with-memory, withPoster, withCounts, withHigh, withEnvelope, withAt}
@@ -44,16 +42,15 @@ use Rattle.port.specs.declared.state.Poster.{Poster}
 use Rattle.port.specs.declared.state.Poster.the-variants.{NoPost, Posting, PostTail}
 use Rattle.port.specs.declared.state.Port.{Port}
 use Rattle.host.specs.declared.state.Host.{Host}
-use Rattle.traffic.specs.Places.{Place, slotWord, envWord, markWord, Site, addr, view}
-use Rattle.traffic.specs.Rings.{Letter, blank, RingInv}
-use Rattle.traffic.specs.World.{World, world, Ev, stepPost, Did, byPort}
-use Rattle.traffic.specs.Play.{Moment}
-use Rattle.traffic.specs.Invariant.{Past, upperOf, Written, PostRoom, PostOn, PostInv, wholeFrom, Inv, Setting, plainOf, playOf}
-use Rattle.traffic.proofs.Place.{Far, far-sym, slots-far, words-far, envs-far, slot-env, mark-slot, mark-env, reads, writes, stored, kept}
+use Rattle.traffic.specs.Places.{slotWord, envWord, markWord, Site, addr, view}
+use Rattle.traffic.specs.World.{World, world, stepPost, byPort}
+use Rattle.traffic.specs.Invariant.{Past, upperOf, Written, PostRoom, PostInv, Inv, Setting, plainOf}
+use Rattle.traffic.proofs.Place.{far-sym, slots-far, words-far, envs-far, slot-env, reads, writes, stored, kept}
 use Rattle.traffic.proofs.RingLaws.{slot-lt, publish, giver-room, giver-full}
-use Rattle.traffic.proofs.Frames.{size-kept, quiet-mark, quiet-env, quiet-slot, quiet-giver, send-frame, fetch-frame, take-frame, next-kept}
+use Rattle.traffic.proofs.Frames.{size-kept, quiet-env, quiet-slot, quiet-giver, send-frame, fetch-frame, take-frame, next-kept}
+use Rattle.traffic.proofs.Marks.{marked, fetch-stays}
 use Rattle.traffic.proofs.PlainLaws.{post-8, post-ok, left-more, left-length}
-use Rattle.traffic.proofs.Sim.{Sim, later, now, sim-of, ran-does}
+use Rattle.traffic.proofs.Sim.{Sim, stepsTo, later, now, untold, not-yet, due, sim-of, ran-does}
 use Rattle.traffic.proofs.WordLaws.{high-owner, high-upper, high-lt, address-is}
 use Rattle.traffic.proofs.GiverLaws.{put-len, put-head, put-word, letter}
 
@@ -196,7 +193,7 @@ module _ (g : Site) (end : ℕ) (b : Bounds) (S′ : Setting g end b) (h : Host)
   no-post : Inv g end b (world h (withPoster p NoPost) m) x → Sim g end b stepPost (world h (withPoster p NoPost) m) x (byPort (world h (withPoster p NoPost) m) (postStep (g .bits) (withPoster p NoPost) m))
   no-post I =
       sim-of g end b stepPost (world h (withPoster p NoPost) m) x (byPort (world h (withPoster p NoPost) m)) (post-idle (g .bits) p (g .area) (I .go) m (I .port-runs))
-      record { moment = later; past = x; inv = I; same = refl; ran = λ l r. r }
+      record { moment = now; past = x; inv = I; same = refl; ran = λ l r. r; calm = refl; timed = λ k j u v. refl; fetch-counted = λ k u. u; post-counted = λ k u. u }
 
   -- an answer that is asked for has an open command
   allowed : (s : Stage) (c : Cursor) (I : Inv g end b (world h (withPoster p (Posting s c)) m) x) → Allowed (posts (c .answers) (x .posting)) (plainOf (world h (withPoster p (Posting s c)) m) x)
@@ -233,6 +230,10 @@ module _ (g : Site) (end : ℕ) (b : Bounds) (S′ : Setting g end b) (h : Host)
             inv = with-post (Posting S.High c) I NoPost tt;
             same = rw (post-8 b (plainOf w x) (c .answers) (x .posting) k);
             ran = ran-does b (plainOf w x) (posts (c .answers) (x .posting)) (allowed S.High c I) _ (post-8 b (plainOf w x) (c .answers) (x .posting) k);
+            calm = refl;
+            timed = λ k j u v. refl;
+            fetch-counted = λ k u. u;
+            post-counted = λ k u. tt;
           }
       by true e =
           let room : PostRoom g x = giver-room g Response (view g m) (view g m) (p .counts .post) (h .counts .take) (x .posted) (x .taken) _ (I .responses) (ap not e) in
@@ -253,6 +254,10 @@ module _ (g : Site) (end : ℕ) (b : Bounds) (S′ : Setting g end b) (h : Host)
                 };
             same = refl;
             ran = λ l r. r;
+            calm = refl;
+            timed = λ k j u v. not-yet j _ (omega (arith, v));
+            fetch-counted = λ k u. u;
+            post-counted = λ k u. ap suc u;
           }
 
   low : (c : Cursor) → Inv g end b (world h (withPoster p (Posting S.Low c)) m) x
@@ -284,6 +289,10 @@ module _ (g : Site) (end : ℕ) (b : Bounds) (S′ : Setting g end b) (h : Host)
             };
         same = refl;
         ran = λ l r. r;
+        calm = refl;
+        timed = λ k j u v. not-yet j _ (omega (arith, v));
+        fetch-counted = λ k u. u;
+        post-counted = λ k u. ap suc u;
       }
 
   len : (c : Cursor) → Inv g end b (world h (withPoster p (Posting S.Length c)) m) x
@@ -310,15 +319,19 @@ module _ (g : Site) (end : ℕ) (b : Bounds) (S′ : Setting g end b) (h : Host)
             };
         same = refl;
         ran = λ l r. r;
+        calm = refl;
+        timed = λ k j u v. not-yet j _ (omega (arith, v));
+        fetch-counted = λ k u. u;
+        post-counted = λ k u. ap suc u;
       }
 
   -- text word k next, or the release
   on-sim : (s : Stage) (c : Cursor) (k o v : ℕ) → o + 2 ≤ 64 → (I : Inv g end b (world h (withPoster p (Posting s c)) m) x) → PostRoom g x
-      → of (addressHigh (g .bits)) (c .high) ≡ upperOf g Response (c .slot) → c .envelope ≡ envelopeAt (g .area) (g .pool) Response (c .slot) → k ≤ wordsOf (length (x .posting))
+      → of (addressHigh (g .bits)) (c .high) ≡ upperOf g Response (c .slot) → c .envelope ≡ envelopeAt (g .area) (g .pool) Response (c .slot) → k ≤ wordsOf (length (x .posting)) → stepsTo s c ≡ 3 + k
       → Written (view g (withWord (g .bits) m (addr g (envWord Response (p .counts .post) o)) v)) Response (p .counts .post) (x .posting) (carries c) k
       → postStep (g .bits) (withPoster p (Posting s c)) m ≡ with-memory (PortState.onward (withPoster p (postOn c k))) (withWord (g .bits) m (addr g (envWord Response (p .counts .post) o)) v)
       → Sim g end b stepPost (world h (withPoster p (Posting s c)) m) x (byPort (world h (withPoster p (Posting s c)) m) (postStep (g .bits) (withPoster p (Posting s c)) m))
-  on-sim s c k o v l I room up en u W e =
+  on-sim s c k o v l I room up en u st W e =
       elim (lt-or-ge k (wordsOf (c .size))) [
         | inl more ↦
             sim-of g end b stepPost (world h (withPoster p (Posting s c)) m) x (byPort (world h (withPoster p (Posting s c)) m))
@@ -338,6 +351,10 @@ module _ (g : Site) (end : ℕ) (b : Bounds) (S′ : Setting g end b) (h : Host)
                   };
               same = refl;
               ran = λ y r. r;
+              calm = refl;
+              timed = λ i j y z. not-yet j _ (omega (arith, z, st, u));
+              fetch-counted = λ i y. y;
+              post-counted = λ i y. omega (arith, y, st);
             }
         | inr none ↦
             sim-of g end b stepPost (world h (withPoster p (Posting s c)) m) x (byPort (world h (withPoster p (Posting s c)) m))
@@ -364,6 +381,10 @@ module _ (g : Site) (end : ℕ) (b : Bounds) (S′ : Setting g end b) (h : Host)
                   };
               same = refl;
               ran = λ y r. r;
+              calm = refl;
+              timed = λ i j y z. not-yet j _ (omega (arith, z, st, u));
+              fetch-counted = λ i y. y;
+              post-counted = λ i y. omega (arith, y, st, none, u, ap wordsOf (I .post .size));
             }
       ]
     where
@@ -380,7 +401,7 @@ module _ (g : Site) (end : ℕ) (b : Bounds) (S′ : Setting g end b) (h : Host)
       let i : ℕ = p .counts .post in
       let at : i < slots (g .area) Response = here (Posting S.Header c) I in
       let v : ℕ = headerWord (carries c) in
-      on-sim S.Header c 0 2 v (omega arith) I (P .0) (P .1 .0) (P .1 .1 .0) (omega arith)
+      on-sim S.Header c 0 2 v (omega arith) I (P .0) (P .1 .0) (P .1 .1 .0) (omega arith) (omega arith)
       (put-head g end F m (I .size) Response i at (x .posting) (I .post .short) (carries c) v refl (rw (← I .post .slot) (P .1 .1 .1)))
       (post-at (g .bits) p (g .area) (I .go) m S.Header c (Write (addr g (envWord Response i 2)) v) v (I .port-runs)
       (touch-head c (I .post .slot) (P .1 .1 .0)) (writes g end F m (I .size) (envWord Response i 2) v (at, omega arith)))
@@ -393,7 +414,7 @@ module _ (g : Site) (end : ℕ) (b : Bounds) (S′ : Setting g end b) (h : Host)
       let at : i < slots (g .area) Response = here (Posting S.Text c) I in
       let v : ℕ = wordOf (p .outgoing) (c .size) (c .at) in
       let few : c .at < wordsOf (length (x .posting)) = P .1 .1 .1 .1 in
-      on-sim S.Text c (c .at + 1) (4 + 2 * c .at) v (omega (arith, few, I .post .short)) I (P .0) (P .1 .0) (P .1 .1 .0) (omega (arith, few))
+      on-sim S.Text c (c .at + 1) (4 + 2 * c .at) v (omega (arith, few, I .post .short)) I (P .0) (P .1 .0) (P .1 .1 .0) (omega (arith, few)) (omega arith)
       (put-word g end F m (I .size) Response i at (x .posting) (I .post .short) (carries c) (c .at) v (I .post .bytes) few
       (ap (λ (y : List ℕ). wordOf y (c .size) (c .at)) (I .post .text) ∙ ap (λ (y : ℕ). wordOf (padded (x .posting)) y (c .at)) (I .post .size))
       (rw (← I .post .slot) (subst (λ (y : ℕ). Written (view g m) Response (c .slot) (x .posting) y (c .at)) (credits-are (withPoster p (Posting S.Text c)) c) (P .1 .1 .1 .0))))
@@ -517,7 +538,7 @@ module _ (g : Site) (end : ℕ) (b : Bounds) (S′ : Setting g end b) (h : Host)
         w = world h (withPoster p (Posting S.Release c)) m
 
         logged : (l : Log) → Ran b l (plainOf w x)
-            → Ran b (noted (posts (c .answers) (x .posting)) (does b (posts (c .answers) (x .posting)) (plainOf w x) .answer) l)
+            → Ran b (noted b (posts (c .answers) (x .posting)) (does b (posts (c .answers) (x .posting)) (plainOf w x) .answer) l)
             (record {
               commands = drop (x .fetched) (x .sent);
               responses = drop (x .taken) (x .posted ++ (entry (x .posting) (carries c) ∷ []));
@@ -528,7 +549,7 @@ module _ (g : Site) (end : ℕ) (b : Bounds) (S′ : Setting g end b) (h : Host)
         logged l r =
             subst
             (λ (y : List Entry).
-            Ran b (noted (posts (c .answers) (x .posting)) (does b (posts (c .answers) (x .posting)) (plainOf w x) .answer) l)
+            Ran b (noted b (posts (c .answers) (x .posting)) (does b (posts (c .answers) (x .posting)) (plainOf w x) .answer) l)
             (record {
               commands = drop (x .fetched) (x .sent);
               responses = y;
@@ -541,15 +562,19 @@ module _ (g : Site) (end : ℕ) (b : Bounds) (S′ : Setting g end b) (h : Host)
         by : (o : Bool) → isSet flagged (c .high) ≡ o → Sim g end b stepPost w x (byPort w (postStep (g .bits) (withPoster p (Posting S.Release c)) m))
         by false e =
             sim-of g end b stepPost w x (byPort w) (step ∙ release-closes c after (I .post .slot) e)
-            record { moment = now; past = one-more c; inv = given NoPost tt; same = rw (post-ok b (plainOf w x) (c .answers) (x .posting) space, more); ran = logged }
+            record { moment = now; past = one-more c; inv = given NoPost tt; same = rw (post-ok b (plainOf w x) (c .answers) (x .posting) space, more); ran = logged; calm = refl; timed = λ k j u v. refl; fetch-counted = λ k u. u; post-counted = λ k u. tt }
         by true e =
             sim-of g end b stepPost w x (byPort w) (step ∙ release-goes c after (I .post .slot) e)
             record {
-              moment = record { acts = true; tells = false };
+              moment = untold;
               past = one-more c;
               inv = given (PostTail (tailStart (g .area) Response) c) (rw (I .post .slot) at);
               same = rw (post-ok b (plainOf w x) (c .answers) (x .posting) space, more);
               ran = logged;
+              calm = refl;
+              timed = λ k j u v. due j _ (v ∙ ap (λ (y : ℕ). 4 + wordsOf y) (I .post .size));
+              fetch-counted = λ k u. u;
+              post-counted = λ k u. tt;
             }
 
   -- the tail: the previous slot's test, and the indicator
@@ -595,10 +620,10 @@ module _ (g : Site) (end : ℕ) (b : Bounds) (S′ : Setting g end b) (h : Host)
       by : (o : Bool) → isSet owner word ≡ o → Sim g end b stepPost w x (byPort w (postStep (g .bits) (withPoster p (PostTail E.Test c)) m))
       by true e =
           sim-of g end b stepPost w x (byPort w) (step ∙ test-goes c m word e)
-          record { moment = later; past = x; inv = with-post (PostTail E.Test c) I (PostTail E.Mark c) (I .post); same = refl; ran = λ l r. r }
+          record { moment = later; past = x; inv = with-post (PostTail E.Test c) I (PostTail E.Mark c) (I .post); same = refl; ran = λ l r. r; calm = refl; timed = λ k j u v. refl; fetch-counted = λ k u. u; post-counted = λ k u. tt }
       by false e =
           sim-of g end b stepPost w x (byPort w) (step ∙ test-closes c m word e)
-          record { moment = now; past = x; inv = with-post (PostTail E.Test c) I NoPost tt; same = refl; ran = λ l r. r }
+          record { moment = now; past = x; inv = with-post (PostTail E.Test c) I NoPost tt; same = refl; ran = λ l r. r; calm = refl; timed = λ k j u v. refl; fetch-counted = λ k u. u; post-counted = λ k u. tt }
 
   mark : (c : Cursor) → Inv g end b (world h (withPoster p (PostTail E.Mark c)) m) x
       → Sim g end b stepPost (world h (withPoster p (PostTail E.Mark c)) m) x (byPort (world h (withPoster p (PostTail E.Mark c)) m) (postStep (g .bits) (withPoster p (PostTail E.Mark c)) m))
@@ -611,27 +636,13 @@ module _ (g : Site) (end : ℕ) (b : Bounds) (S′ : Setting g end b) (h : Host)
       record {
         moment = now;
         past = x;
-        inv =
-            record {
-              host-area = I .host-area;
-              host-pool = I .host-pool;
-              host-runs = I .host-runs;
-              host-ready = I .host-ready;
-              go = I .go;
-              port-runs = I .port-runs;
-              limit = I .limit;
-              size = size-kept g end m (addr g (markWord Response)) 1 (I .size);
-              commands = quiet-mark g end F m (I .size) Command (h .counts .send) (p .counts .fetch) (x .sent) (x .fetched) (x .fetched) (I .commands) Response 1;
-              responses = quiet-mark g end F m (I .size) Response (p .counts .post) (h .counts .take) (x .posted) (x .taken) _ (I .responses) Response 1;
-              send = send-frame g (view g m) (view g m′) h h x x (h .sender) refl refl (omega arith) refl refl (omega arith)
-                  (λ o l. kept g end F m (I .size) (markWord Response) (envWord Command (h .counts .send) o) 1 (mark-env g end F Response Command (h .counts .send) o (send-in (PostTail E.Mark c) I, l))) (I .send);
-              take = I .take;
-              fetch = fetch-frame g (withPoster p (PostTail E.Mark c)) (withPoster p NoPost) x x (p .fetcher) refl refl refl refl (omega arith) (λ k. refl) (I .fetch);
-              post = tt;
-              sum = I .sum;
-            };
+        inv = marked g end b S′ h p (p .fetcher) (PostTail E.Mark c) m x I Response 1 (p .fetcher) NoPost (fetch-stays g end b S′ h p (p .fetcher) (PostTail E.Mark c) m x I Response 1 NoPost) tt;
         same = refl;
         ran = λ l r. r;
+        calm = refl;
+        timed = λ k j u v. refl;
+        fetch-counted = λ k u. u;
+        post-counted = λ k u. tt;
       }
 
   -- every stage

@@ -1,21 +1,19 @@
 -- One ring: what it keeps under a write elsewhere, when a message is given, and when a slot is given back. All arithmetic modulo the
 -- ring's length is here. Assumes nothing.
-use Prim.Native.Nat.{ℕ, suc, _+_, _*_, _-_, _/_, _%_, _^_, _<_, _≤_}
-use mathlib.Core.Path.{_≡_, refl, sym, ap, _∙_}
-use mathlib.Core.Bool.{Bool, true, false, false≢true, true≢false}
+use Prim.Native.Nat.{ℕ, suc, _+_, _*_, _/_, _%_, _^_, _<_, _≤_}
+use mathlib.Core.Path.{_≡_, sym, ap, _∙_}
+use mathlib.Core.Bool.{true, false, false≢true, true≢false}
 use mathlib.Core.List.{List, [], _∷_, _++_}
-use mathlib.Core.Logic.{_⊎_, inl, inr}
+use mathlib.Core.Logic.{inl, inr}
 use native.Mathlib.Omega.{arith}
 use native.Mathlib.Nat.{mod-lt, mod-add-mod, add-mod-right, mul-le-mul-left, div-add-mod}
 use lib.ListN.{length, getD, length-append, List·getD-append}
 use lib.Seq.{getD-append-seam}
 use Rattle.words.specs.Fields.{of, addressHigh}
-use Rattle.words.specs.Words.{lowWord}
-use Rattle.texts.specs.Texts.{wordsOf}
 use Rattle.area.specs.Layout.{slots, envelopeAt}
 use Rattle.area.specs.declared.Ring.{Ring}
 use Rattle.layout.proofs.Rings.{slots-some, lt-or-ge, same-or-not}
-use Rattle.plain.specs.Plain.{Entry, entry}
+use Rattle.plain.specs.Plain.{Entry}
 use Rattle.traffic.specs.Places.{Place, slotWord, envWord, Site}
 use Rattle.traffic.specs.Rings.{waits, Letter, blank, RingInv}
 

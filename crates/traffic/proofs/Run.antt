@@ -1,21 +1,17 @@
 -- Any run: one choice of moments serves all its operations. Assumes nothing.
-use Prim.Native.Nat.{ℕ, suc, _+_, _%_, _<_, _≤_}
-use mathlib.Core.Path.{_≡_, refl, sym, ap, ap₂, subst, _∙_}
+use Prim.Native.Nat.{ℕ, suc}
+use mathlib.Core.Path.{_≡_, refl, sym, ap, subst, _∙_}
 use mathlib.Core.List.{List, [], _∷_}
 use lib.ListN.{length}
-use Rattle.memory.specs.Memory.{Memory}
-use Rattle.plain.specs.Plain.{Bounds, Plain}
+use Rattle.plain.specs.Plain.{Bounds}
 use Rattle.plain.specs.Log.{Log, Ran}
-use Rattle.port.specs.State as PortState
-use Rattle.port.specs.declared.state.Port.{Port}
-use Rattle.host.specs.State as HostState
-use Rattle.host.specs.declared.state.Host.{Host}
 use Rattle.traffic.specs.Places.{Site}
-use Rattle.traffic.specs.World.{World, world, Ev, beginSend, stepSend, beginTake, stepTake, beginFetch, stepFetch, beginPost, stepPost, clearMark, readSa, writeSa, showSa, timeIsUp, Proper, Ans, Did, act, answers, final}
-use Rattle.traffic.specs.Play.{Moment, Play, Played, play, played, plays, ends, logged, logs}
+use Rattle.traffic.specs.World.{World, Ev, beginSend, stepSend, beginTake, stepTake, beginFetch, stepFetch, beginPost, stepPost, clearMark, readSa, writeSa, showSa, timeIsUp, Proper, Ans, act, answers, final}
+use Rattle.traffic.specs.Play.{Moment, Played, play, played, plays, ends, logged, logs}
 use Rattle.traffic.specs.Invariant.{Past, Inv, Setting, plainOf, playOf}
-use Rattle.traffic.specs.Traffic.{AllProper}
-use Rattle.traffic.proofs.Sim.{Sim}
+use Rattle.traffic.specs.Watch.{watch, momentOf, fetchCount, postCount, momentsOf}
+use Rattle.traffic.specs.Traffic.{AllProper, AllCalm}
+use Rattle.traffic.proofs.Sim.{Sim, FetchSteps, PostSteps}
 use Rattle.traffic.proofs.SendSim.{send-sim}
 use Rattle.traffic.proofs.TakeSim.{take-sim}
 use Rattle.traffic.proofs.FetchSim.{fetch-sim}
@@ -39,29 +35,40 @@ module _ (g : Site) (end : ℕ) (b : Bounds) (S : Setting g end b) where
   sim (showSa v) y w x I = events.show g end b S (w .host) (w .port) (w .memory) x v I
   sim timeIsUp y w x I = events.late g end b S (w .host) (w .port) (w .memory) x I
 
-  -- a whole run
-  pub record Whole (es : List Ev) (w : World) (x : Past) : Type 0 where
-    pub moments : List Moment
-    pub each : length moments ≡ length es
-    pub past : Past
-    pub inv : Inv g end b (final (g .bits) es w) past
-    pub same : plays b moments es (playOf w x) ≡ answers (g .bits) es w
-    pub reaches : ends b moments es (playOf w x) ≡ playOf (final (g .bits) es w) past
-    pub ran : (l : Log) → Ran b l (plainOf w x) → Ran b (logs b moments es (playOf w x) l) (plainOf (final (g .bits) es w) past)
+  -- a whole run, from a point where k steps of the fetch under way were made and j of the post
+  module _ (es : List Ev) (w : World) (x : Past) (k j : ℕ) where
+    abbrev at : List Moment
+    at = momentsOf b es (answers (act (g .bits)) es w) (watch (playOf w x) k j)
 
-  pub whole : (es : List Ev) → AllProper es → (w : World) (x : Past) → Inv g end b w x → Whole es w x
-  whole [] y w x I = record { moments = []; each = refl; past = x; inv = I; same = refl; reaches = refl; ran = λ l r. r }
-  whole (e ∷ es) y w x I =
+    pub record Whole : Type 0 where
+      pub each : length at ≡ length es
+      pub past : Past
+      pub inv : Inv g end b (final (act (g .bits)) es w) past
+      pub same : plays b at es (playOf w x) ≡ answers (act (g .bits)) es w
+      pub reaches : ends b at es (playOf w x) ≡ playOf (final (act (g .bits)) es w) past
+      pub ran : (l : Log) → Ran b l (plainOf w x) → Ran b (logs b at es (playOf w x) l) (plainOf (final (act (g .bits)) es w) past)
+      pub calm : AllCalm (answers (act (g .bits)) es w)
+
+  pub whole : (es : List Ev) → AllProper es → (w : World) (x : Past) → Inv g end b w x → (k j : ℕ) → FetchSteps k (w .port .fetcher) → PostSteps j (w .port .poster) → Whole es w x k j
+  whole [] y w x I k j u v = record { each = refl; past = x; inv = I; same = refl; reaches = refl; ran = λ l r. r; calm = tt }
+  whole (e ∷ es) y w x I k j u v =
+      let a : Ans = act (g .bits) e w .ans in
+      let m : Moment = momentOf (watch (playOf w x) k j) e a in
       let s = sim e (y .0) w x I in
-      let r = whole es (y .1) (act (g .bits) e w .next) (s .past) (s .inv) in
+      let k′ : ℕ = fetchCount e a k in
+      let j′ : ℕ = postCount e a j in
+      let later : Played → List Moment = λ d. momentsOf b es (answers (act (g .bits)) es (act (g .bits) e w .next)) (watch (d .next) k′ j′) in
+      let q : play b m e (playOf w x) ≡ played a (playOf (act (g .bits) e w .next) (s .past)) = ap (λ (i : Moment). play b i e (playOf w x)) (s .timed k j u v) ∙ s .same in
+      let r = whole es (y .1) (act (g .bits) e w .next) (s .past) (s .inv) k′ j′ (s .fetch-counted k u) (s .post-counted j v) in
       record {
-        moments = s .moment ∷ r .moments;
-        each = ap suc (r .each);
+        each = ap suc (ap (λ (d : Played). length (later d)) q ∙ r .each);
         past = r .past;
         inv = r .inv;
-        same = ap₂ (λ (a : Ans) (l : List Ans). a ∷ l) (ap (λ (d : Played). d .ans) (s .same)) (ap (λ (d : Played). plays b (r .moments) es (d .next)) (s .same) ∙ r .same);
-        reaches = ap (λ (d : Played). ends b (r .moments) es (d .next)) (s .same) ∙ r .reaches;
-        ran = λ l q.
-            subst (λ (d : Played). Ran b (logs b (r .moments) es (d .next) (logged b (s .moment) e (playOf w x) l)) (plainOf (final (g .bits) (e ∷ es) w) (r .past))) (sym (s .same))
-            (r .ran (logged b (s .moment) e (playOf w x) l) (s .ran l q));
+        same = ap (λ (d : Played). d .ans ∷ plays b (later d) es (d .next)) q ∙ ap (λ (l : List Ans). a ∷ l) (r .same);
+        reaches = ap (λ (d : Played). ends b (later d) es (d .next)) q ∙ r .reaches;
+        ran = λ l o.
+            subst (λ (d : Played). Ran b (logs b (later d) es (d .next) (logged b m e (playOf w x) l)) (plainOf (final (act (g .bits)) (e ∷ es) w) (r .past))) (sym q)
+            (r .ran (logged b m e (playOf w x) l)
+            (subst (λ (i : Moment). Ran b (logged b i e (playOf w x) l) (plainOf (act (g .bits) e w .next) (s .past))) (sym (s .timed k j u v)) (s .ran l o)));
+        calm = (s .calm, r .calm);
       }

@@ -1,28 +1,27 @@
 -- The send side's step, stage by stage. It takes effect where it writes the high word; its refusals where it looks. Assumes nothing.
-use Prim.Native.Nat.{ℕ, suc, _+_, _*_, _-_, _/_, _%_, _^_, _<_, _≤_}
+use Prim.Native.Nat.{ℕ, _+_, _*_, _-_, _%_, _^_, _<_, _≤_}
 use mathlib.Core.Path.{_≡_, refl, sym, ap, subst, _∙_}
-use mathlib.Core.Bool.{Bool, true, false, cond}
+use mathlib.Core.Bool.{Bool, true, false}
 use mathlib.Core.List.{List, [], _∷_, _++_}
-use mathlib.Core.Logic.{_⊎_, inl, inr}
+use mathlib.Core.Logic.{inl, inr}
 use native.Mathlib.Omega.{arith}
-use lib.Dec.{leb, ltb, eqb}
-use lib.ListN.{length, getD, drop, length-drop, length-append}
-use borrow.Author.Tests.{lt-ltb, le-ltb, eq-eqb, ne-eqb, eqb-true, eqb-false}
-use Rattle.words.specs.Fields.{of, isSet, owner, addressHigh}
-use Rattle.words.specs.Words.{lowWord, withAddress, highWord, headerWord}
+use lib.ListN.{length, getD, drop, length-append}
+use borrow.Author.Tests.{lt-ltb, le-ltb, eq-eqb, ne-eqb}
+use Rattle.words.specs.Fields.{of, isSet, owner}
+use Rattle.words.specs.Words.{lowWord, withAddress, highWord}
 use Rattle.texts.specs.Texts.{wordsOf, wordOf, padded}
-use Rattle.memory.specs.Memory.{Memory, usable, withWord}
+use Rattle.memory.specs.Memory.{Memory, withWord}
 use Rattle.memory.specs.OneWord.{found, left}
 use Rattle.memory.specs.declared.Word.the-variants.{Value}
 use Rattle.memory.specs.declared.Touch.{Touch}
 use Rattle.memory.specs.declared.Touch.the-variants.{Nothing, Read, Write}
 use Rattle.answers.specs.Told.{told, done}
-use Rattle.area.specs.Layout.{slots, slotAt, nextOf, envelopeAt}
+use Rattle.area.specs.Layout.{slots, nextOf, envelopeAt}
 use Rattle.area.specs.declared.Ring.the-variants.{Command, Response}
-use Rattle.layout.specs.Facts.{rings, rings′, slots-apart, AreaFacts}
-use Rattle.layout.proofs.Rings.{slots-some, lt-or-ge, same-or-not}
+use Rattle.layout.specs.Facts.{rings, slots-apart, AreaFacts}
+use Rattle.layout.proofs.Rings.{lt-or-ge, same-or-not}
 use Rattle.plain.specs.Plain.{Entry, entry, Bounds}
-use Rattle.plain.specs.Log.{Op, sends, does, noted, Log, Ran, creditsIn}
+use Rattle.plain.specs.Log.{sends, does, noted, Ran, creditsIn}
 use Rattle.port.specs.declared.state.Port.{Port}
 use Rattle.host.specs.State as HostState
 use Rattle.host.specs.State.{isReady, with-memory, withSender, withHigh, withAt}
@@ -32,21 +31,19 @@ use Rattle.host.specs.declared.state.SendStage.{SendStage}
 use Rattle.host.specs.declared.state.SendStage.the-variants as H
 use Rattle.host.specs.declared.state.Sender.{Sender}
 use Rattle.host.specs.declared.state.Sender.the-variants.{NoSend, Sending}
-use Rattle.host.specs.declared.state.Shake.the-variants.{Finished}
 use Rattle.host.specs.declared.state.Taker.{Taker}
 use Rattle.host.specs.declared.state.Host.{Host}
-use Rattle.traffic.specs.Places.{Place, slotWord, envWord, Site, addr, view}
-use Rattle.traffic.specs.Rings.{Letter, blank, RingInv}
-use Rattle.traffic.specs.World.{World, world, Ev, stepSend, Did, byHost}
-use Rattle.traffic.specs.Invariant.{Past, Written, MayGive, SendOn, SendInv, TakeInv, Inv, Setting, plainOf, playOf}
-use Rattle.traffic.proofs.Place.{Far, far-sym, slots-far, words-far, envs-far, offsets-far, slot-env, reads, writes, stored, kept}
+use Rattle.traffic.specs.Places.{slotWord, envWord, Site, addr, view}
+use Rattle.traffic.specs.Rings.{blank, RingInv}
+use Rattle.traffic.specs.World.{World, world, stepSend, Did, byHost}
+use Rattle.traffic.specs.Invariant.{Past, Written, MayGive, SendInv, TakeInv, Inv, Setting, plainOf}
+use Rattle.traffic.proofs.Place.{far-sym, slots-far, words-far, envs-far, slot-env, reads, writes, stored, kept}
 use Rattle.traffic.proofs.RingLaws.{slot-lt, quiet, publish, giver-room, giver-full}
-use Rattle.traffic.proofs.TextLaws.{word-lt}
 use Rattle.traffic.proofs.Frames.{size-kept, quiet-env, quiet-slot, quiet-giver, written-kept, fetch-frame, take-frame, post-frame, next-kept}
 use Rattle.traffic.proofs.PlainLaws.{send-5, send-6, send-ok, left-more, left-length}
 use Rattle.traffic.proofs.Sim.{Sim, later, now, sim-of, ran-does}
 use Rattle.traffic.proofs.GiverLaws.{put-len, put-head, put-word, letter}
-use Rattle.traffic.proofs.WordLaws.{high-owner, high-upper, with-upper, header-zero, low-lt, high-lt, upper-small}
+use Rattle.traffic.proofs.WordLaws.{high-owner, high-upper, with-upper, low-lt, high-lt, upper-small}
 
 -- a step of a ready host whose touch finds a word
 send-at : (n : ℕ) (h : Host) (m : Memory) (s : SendStage) (c : Cursor) (t : Touch) (v : ℕ) → isReady h ≡ true → sendTouch n (withSender h (Sending s c)) s c ≡ t → found n m t ≡ Value v
@@ -238,12 +235,12 @@ module _ (g : Site) (end : ℕ) (b : Bounds) (S : Setting g end b) (h : Host) (p
       → Sim g end b stepSend (world (withSender h snd) p m) x d
   going-sim snd snd′ t m′ d j j′ e I′ =
       subst (λ (y : Did). Sim g end b stepSend (world (withSender h snd) p m) x y) (sym e)
-      record { moment = later; past = x; inv = I′; same = rw (j, j′); ran = λ l r. r }
+      record { moment = later; past = x; inv = I′; same = rw (j, j′); ran = λ l r. r; calm = refl; timed = λ k j u v. refl; fetch-counted = λ k u. u; post-counted = λ k u. u }
 
   no-send : Inv g end b (world (withSender h NoSend) p m) x → Sim g end b stepSend (world (withSender h NoSend) p m) x (byHost (world (withSender h NoSend) p m) (sendStep (g .bits) (withSender h NoSend) m))
   no-send I =
       sim-of g end b stepSend (world (withSender h NoSend) p m) x (byHost (world (withSender h NoSend) p m)) (send-idle (g .bits) h m (ready NoSend I))
-      record { moment = later; past = x; inv = I; same = refl; ran = λ l r. r }
+      record { moment = now; past = x; inv = I; same = refl; ran = λ l r. r; calm = refl; timed = λ k j u v. refl; fetch-counted = λ k u. u; post-counted = λ k u. u }
 
   -- the own slot's high word is read
   look : (c : Cursor) → Inv g end b (world (withSender h (Sending H.Look c)) p m) x
@@ -276,6 +273,10 @@ module _ (g : Site) (end : ℕ) (b : Bounds) (S : Setting g end b) (h : Host) (p
             inv = after-refusal;
             same = rw (send-5 b (plainOf w x) (x .sending) z);
             ran = ran-does b (plainOf w x) (sends (x .sending)) tt _ (send-5 b (plainOf w x) (x .sending) z);
+            calm = refl;
+            timed = λ k j u v. refl;
+            fetch-counted = λ k u. u;
+            post-counted = λ k u. u;
           }
 
       step : (h .counts .account ≡ 0 → ⊥) → sendStep (g .bits) (withSender h (Sending H.Look c)) m ≡ with-memory (sendLook (withSender h (Sending H.Look c)) c (view g m (slotWord Command (c .slot) 2))) m
@@ -295,6 +296,10 @@ module _ (g : Site) (end : ℕ) (b : Bounds) (S : Setting g end b) (h : Host) (p
             inv = after-refusal;
             same = rw (send-6 b (plainOf w x) (x .sending) z q);
             ran = ran-does b (plainOf w x) (sends (x .sending)) tt _ (send-6 b (plainOf w x) (x .sending) z q);
+            calm = refl;
+            timed = λ k j u v. refl;
+            fetch-counted = λ k u. u;
+            post-counted = λ k u. u;
           }
       by false e z =
           let room : length (x .sent) < x .fetched + slots (g .area) Command =
@@ -315,6 +320,10 @@ module _ (g : Site) (end : ℕ) (b : Bounds) (S : Setting g end b) (h : Host) (p
                 };
             same = refl;
             ran = λ l r. r;
+            calm = refl;
+            timed = λ k j u v. refl;
+            fetch-counted = λ k u. u;
+            post-counted = λ k u. u;
           }
 
   -- the envelope is written: length, header, text
@@ -339,6 +348,10 @@ module _ (g : Site) (end : ℕ) (b : Bounds) (S : Setting g end b) (h : Host) (p
             };
         same = refl;
         ran = λ l r. r;
+        calm = refl;
+        timed = λ k j u v. refl;
+        fetch-counted = λ k u. u;
+        post-counted = λ k u. u;
       }
 
   -- text word k next, or the low word
@@ -367,6 +380,10 @@ module _ (g : Site) (end : ℕ) (b : Bounds) (S : Setting g end b) (h : Host) (p
                   };
               same = refl;
               ran = λ q r. r;
+              calm = refl;
+              timed = λ k j u v. refl;
+              fetch-counted = λ k u. u;
+              post-counted = λ k u. u;
             }
         | inr none ↦
             sim-of g end b stepSend (world (withSender h (Sending s c)) p m) x (byHost (world (withSender h (Sending s c)) p m))
@@ -385,6 +402,10 @@ module _ (g : Site) (end : ℕ) (b : Bounds) (S : Setting g end b) (h : Host) (p
                   };
               same = refl;
               ran = λ q r. r;
+              calm = refl;
+              timed = λ k j u v. refl;
+              fetch-counted = λ k u. u;
+              post-counted = λ k u. u;
             }
       ]
     where
@@ -444,6 +465,10 @@ module _ (g : Site) (end : ℕ) (b : Bounds) (S : Setting g end b) (h : Host) (p
             (I .sum);
         same = refl;
         ran = λ l r. r;
+        calm = refl;
+        timed = λ k j u v. refl;
+        fetch-counted = λ k u. u;
+        post-counted = λ k u. u;
       }
 
   -- the high word: the command is given
@@ -504,8 +529,12 @@ module _ (g : Site) (end : ℕ) (b : Bounds) (S : Setting g end b) (h : Host) (p
             tt
             (rw more (simp length-append (omega (arith, I .sum, M .credit))));
         same = rw (done-it, more);
-        ran = λ l r. subst (λ (y : List Entry). Ran b (noted (sends (x .sending)) (does b (sends (x .sending)) (plainOf w x) .answer) l) (record { commands = y; responses = drop (x .taken) (x .posted); account = h .counts .account - 1; unanswered = p .counts .unanswered; owed = p .counts .owed })) (sym more)
+        ran = λ l r. subst (λ (y : List Entry). Ran b (noted b (sends (x .sending)) (does b (sends (x .sending)) (plainOf w x) .answer) l) (record { commands = y; responses = drop (x .taken) (x .posted); account = h .counts .account - 1; unanswered = p .counts .unanswered; owed = p .counts .owed })) (sym more)
             (ran-does b (plainOf w x) (sends (x .sending)) tt _ done-it l r);
+        calm = refl;
+        timed = λ k j u v. refl;
+        fetch-counted = λ k u. u;
+        post-counted = λ k u. u;
       }
     where
       low : (i : ℕ) → i < slots (g .area) Command → envelopeAt (g .area) (g .pool) Command i + 4 < 2 ^ g .bits

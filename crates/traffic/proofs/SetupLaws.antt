@@ -1,30 +1,21 @@
 -- What an accepted setup leaves: every slot's address words are the pool picture, response slots are the port's and command slots the
 -- host's. Assumes nothing.
-use Prim.Native.Nat.{ℕ, zero, suc, _+_, _*_, _-_, _/_, _%_, _^_, _<_, _≤_}
-use mathlib.Core.Path.{_≡_, refl, sym, ap, ap₂, subst, _∙_}
-use mathlib.Core.Bool.{Bool, true, false, cond, not}
-use mathlib.Core.List.{List, []}
+use Prim.Native.Nat.{ℕ, zero, suc, _+_, _*_, _<_, _≤_}
+use mathlib.Core.Path.{_≡_, refl, sym, ap, _∙_}
+use mathlib.Core.Bool.{Bool, true, false, cond}
 use mathlib.Core.Logic.{_⊎_, inl, inr}
 use native.Mathlib.Omega.{arith}
-use native.Mathlib.Nat.{mod-eq-of-lt, zero-mod}
-use lib.Dec.{leb, ltb}
-use lib.ListN.{length, getD}
-use borrow.Author.Tests.{lt-ltb, le-ltb, le-leb}
-use Rattle.words.specs.Fields.{of, isSet, owner, addressHigh}
+use lib.ListN.{length}
+use Rattle.words.specs.Fields.{of}
 use Rattle.words.specs.Words.{lowWord, withAddress, highWord}
 use Rattle.memory.specs.Memory.{Memory, usable, lies, inside, wordIn, withWord, cleared}
 use Rattle.memory.proofs.Laws.{usable-le, inside-yes, withWord-length, withWord-low, withWord-high, wordIn-other, lies-yes, cleared-length}
-use Rattle.area.specs.Layout.{slots, slotCount, base, numberOf, slotAt, ringsEnd, envelopeAt}
-use Rattle.area.specs.Setup.{poolEnd, fits, toPort, withLength, slotSet, slotsSet, setUp}
+use Rattle.area.specs.Layout.{slots, slotCount, base, ringsEnd}
+use Rattle.area.specs.Setup.{poolEnd, toPort, withLength, slotSet, slotsSet, setUp}
 use Rattle.area.specs.declared.Area.{Area}
-use Rattle.area.specs.declared.Ring.{Ring}
-use Rattle.area.specs.declared.Ring.the-variants.{Command, Response}
-use Rattle.layout.specs.Facts.{Clear, AreaFacts}
-use Rattle.layout.proofs.Rings.{slots-some, number-lt, same-or-not}
-use Rattle.traffic.specs.Places.{Place, slotWord, Site, addr, view}
-use Rattle.traffic.specs.Rings.{waits, RingInv}
-use Rattle.traffic.proofs.RingLaws.{slot-lt}
-use Rattle.traffic.proofs.WordLaws.{high-owner, high-upper, with-upper, upper-small, low-lt, high-lt}
+use Rattle.layout.specs.Facts.{AreaFacts}
+use Rattle.layout.proofs.Rings.{same-or-not}
+use Rattle.traffic.proofs.WordLaws.{low-lt, high-lt}
 
 word-stored : (n : ℕ) (m : Memory) (a v : ℕ) → inside n m a ≡ true → v < 65536 → wordIn (withWord n m a v) a ≡ v
 word-stored n m a v e h = rw (withWord-low n m a v e, withWord-high n m a v e) (omega arith)

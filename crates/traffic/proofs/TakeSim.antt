@@ -1,17 +1,16 @@
 -- The take side's step, stage by stage. It takes effect where it writes the high word; its refusal where it looks. Assumes nothing.
-use Prim.Native.Nat.{ℕ, suc, _+_, _*_, _-_, _/_, _%_, _^_, _<_, _≤_, min}
-use mathlib.Core.Path.{_≡_, refl, sym, ap, ap₂, subst, _∙_}
-use mathlib.Core.Bool.{Bool, true, false, cond, not}
-use mathlib.Core.List.{List, [], _∷_, _++_}
-use mathlib.Core.Logic.{_⊎_, inl, inr}
+use Prim.Native.Nat.{ℕ, suc, _+_, _*_, _%_, _<_, _≤_, min}
+use mathlib.Core.Path.{_≡_, refl, sym, ap, subst, _∙_}
+use mathlib.Core.Bool.{Bool, true, false, not}
+use mathlib.Core.List.{List, [], _∷_}
+use mathlib.Core.Logic.{inl, inr}
 use native.Mathlib.Omega.{arith}
-use lib.Dec.{leb, ltb, eqb}
-use lib.ListN.{length, getD, drop, length-drop, length-append}
+use lib.ListN.{length, drop}
 use borrow.Author.Tests.{lt-ltb, le-ltb, le-leb}
-use Rattle.words.specs.Fields.{of, isSet, owner, addressHigh, connection, messageType, credits}
-use Rattle.words.specs.Words.{highWord, headerWord}
-use Rattle.texts.specs.Texts.{wordsOf, wordOf, withText, padded, zeros}
-use Rattle.memory.specs.Memory.{Memory, usable, withWord}
+use Rattle.words.specs.Fields.{of, isSet, owner, connection, messageType, credits}
+use Rattle.words.specs.Words.{highWord}
+use Rattle.texts.specs.Texts.{wordsOf, withText}
+use Rattle.memory.specs.Memory.{Memory, withWord}
 use Rattle.memory.specs.OneWord.{found, left}
 use Rattle.memory.specs.declared.Word.the-variants.{Value}
 use Rattle.memory.specs.declared.Touch.{Touch}
@@ -20,12 +19,12 @@ use Rattle.answers.specs.Told.{told, carried}
 use Rattle.rules.specs.Rules.{faultOf}
 use Rattle.rules.specs.declared.Fault.the-variants.{Sound}
 use Rattle.rules.proofs.Laws.{sound}
-use Rattle.area.specs.Layout.{slots, slotAt, nextOf, envelopeAt}
+use Rattle.area.specs.Layout.{slots, nextOf}
 use Rattle.area.specs.declared.Ring.the-variants.{Command, Response}
-use Rattle.layout.specs.Facts.{rings, rings′, slots-apart, AreaFacts}
+use Rattle.layout.specs.Facts.{rings′, slots-apart, AreaFacts}
 use Rattle.layout.proofs.Rings.{slots-some, lt-or-ge, same-or-not}
-use Rattle.plain.specs.Plain.{Entry, entry, Bounds, Plain}
-use Rattle.plain.specs.Log.{Op, takes, does, noted, Log, Ran, creditsIn}
+use Rattle.plain.specs.Plain.{Bounds}
+use Rattle.plain.specs.Log.{takes, does, noted, Ran, creditsIn}
 use Rattle.port.specs.declared.state.Port.{Port}
 use Rattle.host.specs.State as HostState
 use Rattle.host.specs.State.{isReady, with-memory, withTaker, withIncoming, withHigh, withSize, withAt, withCredits}
@@ -36,12 +35,12 @@ use Rattle.host.specs.declared.state.TakeStage.the-variants as T
 use Rattle.host.specs.declared.state.Taker.{Taker}
 use Rattle.host.specs.declared.state.Taker.the-variants.{NoTake, Taking}
 use Rattle.host.specs.declared.state.Host.{Host}
-use Rattle.traffic.specs.Places.{Place, slotWord, envWord, Site, addr, view}
-use Rattle.traffic.specs.Rings.{Letter, blank, RingInv}
+use Rattle.traffic.specs.Places.{slotWord, envWord, Site, addr, view}
+use Rattle.traffic.specs.Rings.{Letter, RingInv}
 use Rattle.traffic.specs.Got.{Got}
-use Rattle.traffic.specs.World.{World, world, Ev, stepTake, Did, byHost}
-use Rattle.traffic.specs.Invariant.{Past, Found, nextResponse, TakeOn, TakeInv, wholeFrom, PostRoom, Inv, Setting, plainOf, playOf}
-use Rattle.traffic.proofs.Place.{Far, far-sym, slots-far, words-far, envs-far, slot-env, reads, writes, stored, kept}
+use Rattle.traffic.specs.World.{World, world, stepTake, byHost}
+use Rattle.traffic.specs.Invariant.{Past, Found, nextResponse, TakeInv, wholeFrom, PostRoom, Inv, Setting, plainOf}
+use Rattle.traffic.proofs.Place.{far-sym, slots-far, words-far, envs-far, slot-env, reads, writes, stored, kept}
 use Rattle.traffic.proofs.RingLaws.{same-place, slot-lt, spoil, release, taker-some, taker-none}
 use Rattle.traffic.proofs.TextLaws.{got-none, got-more, got-all}
 use Rattle.traffic.proofs.Frames.{size-kept, quiet-at, quiet-env, quiet-slot, send-frame, post-frame}
@@ -147,7 +146,7 @@ module _ (g : Site) (end : ℕ) (b : Bounds) (S : Setting g end b) (h : Host) (p
   no-take : Inv g end b (world (withTaker h NoTake) p m) x → Sim g end b stepTake (world (withTaker h NoTake) p m) x (byHost (world (withTaker h NoTake) p m) (takeStep (g .bits) (withTaker h NoTake) m))
   no-take I =
       sim-of g end b stepTake (world (withTaker h NoTake) p m) x (byHost (world (withTaker h NoTake) p m)) (take-idle (g .bits) h m (ready NoTake I))
-      record { moment = later; past = x; inv = I; same = refl; ran = λ l r. r }
+      record { moment = now; past = x; inv = I; same = refl; ran = λ l r. r; calm = refl; timed = λ k j u v. refl; fetch-counted = λ k u. u; post-counted = λ k u. u }
 
   look : (c : Cursor) → Inv g end b (world (withTaker h (Taking T.Look c)) p m) x
       → Sim g end b stepTake (world (withTaker h (Taking T.Look c)) p m) x (byHost (world (withTaker h (Taking T.Look c)) p m) (takeStep (g .bits) (withTaker h (Taking T.Look c)) m))
@@ -175,6 +174,10 @@ module _ (g : Site) (end : ℕ) (b : Bounds) (S : Setting g end b) (h : Host) (p
             inv = with-take (Taking T.Look c) I (h .incoming) NoTake (I .responses) tt;
             same = rw (take-7 b (plainOf w x) none);
             ran = ran-does b (plainOf w x) takes tt _ (take-7 b (plainOf w x) none);
+            calm = refl;
+            timed = λ k j u v. refl;
+            fetch-counted = λ k u. u;
+            post-counted = λ k u. u;
           }
       by false e =
           let some : x .taken < length (x .posted) =
@@ -191,6 +194,10 @@ module _ (g : Site) (end : ℕ) (b : Bounds) (S : Setting g end b) (h : Host) (p
                 };
             same = refl;
             ran = λ l r. r;
+            calm = refl;
+            timed = λ k j u v. refl;
+            fetch-counted = λ k u. u;
+            post-counted = λ k u. u;
           }
 
   -- the letter that is being taken
@@ -214,6 +221,10 @@ module _ (g : Site) (end : ℕ) (b : Bounds) (S : Setting g end b) (h : Host) (p
             record { slot = I .take .slot; progress = (I .take .progress .0, (I .take .progress .1, L .len)) };
         same = refl;
         ran = λ l r. r;
+        calm = refl;
+        timed = λ k j u v. refl;
+        fetch-counted = λ k u. u;
+        post-counted = λ k u. u;
       }
 
   -- text word k next, or the refill
@@ -234,6 +245,10 @@ module _ (g : Site) (end : ℕ) (b : Bounds) (S : Setting g end b) (h : Host) (p
                   record { slot = sl; progress = (fo, (go, (si, (cr, rw (← si) more)))) };
               same = refl;
               ran = λ l r. r;
+              calm = refl;
+              timed = λ k j u v. refl;
+              fetch-counted = λ k u. u;
+              post-counted = λ k u. u;
             }
         | inr none ↦
             sim-of g end b stepTake (world (withTaker h (Taking s c)) p m) x (byHost (world (withTaker h (Taking s c)) p m))
@@ -245,6 +260,10 @@ module _ (g : Site) (end : ℕ) (b : Bounds) (S : Setting g end b) (h : Host) (p
                   record { slot = sl; progress = (fo, (got-all room (nextResponse x .text) k sh (rw (← si) none) go, (si, cr))) };
               same = refl;
               ran = λ l r. r;
+              calm = refl;
+              timed = λ k j u v. refl;
+              fetch-counted = λ k u. u;
+              post-counted = λ k u. u;
             }
       ]
 
@@ -329,6 +348,10 @@ module _ (g : Site) (end : ℕ) (b : Bounds) (S : Setting g end b) (h : Host) (p
             };
         same = refl;
         ran = λ l r. r;
+        calm = refl;
+        timed = λ k j u v. refl;
+        fetch-counted = λ k u. u;
+        post-counted = λ k u. u;
       }
     where
       some′ : x .taken < length (x .posted)
@@ -423,8 +446,12 @@ module _ (g : Site) (end : ℕ) (b : Bounds) (S : Setting g end b) (h : Host) (p
             };
         same = rw (done-it, P .1 .0, P .1 .1 .0, cr);
         ran = λ l r.
-            subst (λ (y : ℕ). Ran b (noted takes (does b takes (plainOf w x) .answer) l) (record { commands = drop (x .fetched) (x .sent); responses = drop (suc (x .taken)) (x .posted); account = h .counts .account + y; unanswered = p .counts .unanswered; owed = p .counts .owed })) (sym cr)
+            subst (λ (y : ℕ). Ran b (noted b takes (does b takes (plainOf w x) .answer) l) (record { commands = drop (x .fetched) (x .sent); responses = drop (suc (x .taken)) (x .posted); account = h .counts .account + y; unanswered = p .counts .unanswered; owed = p .counts .owed })) (sym cr)
             (ran-does b (plainOf w x) takes tt _ done-it l r);
+        calm = refl;
+        timed = λ k j u v. refl;
+        fetch-counted = λ k u. u;
+        post-counted = λ k u. u;
       }
     where
       there : h .counts .send < slots (g .area) Command

@@ -1,11 +1,11 @@
 -- Words that both halves write, read back: owner bits, address bits, and that each fits a word. Assumes nothing.
-use Prim.Native.Nat.{ℕ, _+_, _*_, _-_, _/_, _%_, _^_, _<_, _≤_}
+use Prim.Native.Nat.{ℕ, _+_, _-_, _/_, _%_, _^_, _<_, _≤_}
 use mathlib.Core.Path.{_≡_, refl, sym, ap, _∙_}
-use mathlib.Core.Bool.{Bool, true, false, not}
+use mathlib.Core.Bool.{Bool}
 use native.Mathlib.Omega.{arith}
-use native.Mathlib.Nat.{mod-eq-of-lt, mod-lt}
-use lib.Pow.{shr-lt, pow-pos}
-use Rattle.words.specs.Fields.{of, isSet, flag, owner, addressHigh, kept, connection, messageType, credits}
+use native.Mathlib.Nat.{mod-eq-of-lt}
+use lib.Pow.{shr-lt}
+use Rattle.words.specs.Fields.{of, isSet, owner, addressHigh, kept, connection, messageType, credits}
 use Rattle.words.specs.Words.{lowWord, withAddress, highWord, headerWord, addressOf}
 use Rattle.words.proofs.Laws.{flag-lt}
 use Rattle.words.proofs.BackLaws.{read-back, high-part, upper-part}

@@ -5,16 +5,12 @@ use mathlib.Core.Bool.{Bool, true, false}
 use mathlib.Core.List.{List, [], _∷_}
 use lib.ListN.{length, replicate}
 use Rattle.words.specs.Words.{addressBits}
-use Rattle.memory.specs.Memory.{Memory}
 use Rattle.answers.specs.Told as Told
 use Rattle.port.specs.Shake.{created}
-use Rattle.port.specs.declared.state.Made.{Made}
-use Rattle.port.specs.declared.state.Port.{Port}
 use Rattle.host.specs.Shake.{newHost}
 use Rattle.host.specs.declared.state.Beginning.{Beginning}
-use Rattle.host.specs.declared.state.Host.{Host}
 use Rattle.meeting.specs.Meeting.{Pair, pair}
-use Rattle.traffic.specs.World.{World, Ev, beginSend, stepSend, beginTake, stepTake, beginFetch, stepFetch, beginPost, stepPost, Ans, call, answers}
+use Rattle.traffic.specs.World.{World, Ev, beginSend, stepSend, beginTake, stepTake, beginFetch, stepFetch, beginPost, stepPost, Ans, call, act, answers}
 use Rattle.traffic.specs.Traffic.{started, Start}
 
 -- Base 8 and the pool at 2048, in any 32 KiB, with any host and any port of a limit of 1 to 64 before.
@@ -29,6 +25,9 @@ EveryPair =
 -- Rings of one slot over 256 bytes, limit 2.
 abbrev pub small : Pair
 small = pair newHost (created (record { nv = false; qb = false; di = false; version = 0; limit = 2 }) .state) (replicate 256 0)
+
+abbrev pub smallSettings : Beginning
+smallSettings = record { command = 0; response = 0; interrupts = false; vector = 0; base = 8 }
 
 -- A step's numbers: the refusal, 100 for done, 200 for going.
 abbrev pub numberOf : Told.Closing → ℕ
@@ -60,7 +59,7 @@ calls =
 
 abbrev pub MixedRun : Type 0
 MixedRun =
-    shown (answers addressBits calls (started (record { command = 0; response = 0; interrupts = false; vector = 0; base = 8 }) small [] 64))
+    shown (answers (act addressBits) calls (started smallSettings small [] 64))
     ≡ 200
     ∷ 200 ∷ 200 ∷ 200 ∷ 200 ∷ 7 ∷ 200 ∷ 200 ∷ 100
     ∷ 200 ∷ 5

@@ -1,24 +1,23 @@
 -- What holds of host, port and memory after every step of a run, and the plain machine's state that they stand for.
 use Prim.Native.Nat.{ℕ, suc, _+_, _*_, _/_, _^_, _<_, _≤_}
 use mathlib.Core.Path.{_≡_}
-use mathlib.Core.Bool.{Bool, true, false, cond}
-use mathlib.Core.List.{List, []}
+use mathlib.Core.Bool.{true}
+use mathlib.Core.List.{List}
 use lib.ListN.{length, getD, drop}
 use Rattle.words.specs.Fields.{of, addressHigh}
 use Rattle.words.specs.Words.{headerWord}
 use Rattle.texts.specs.Texts.{wordsOf, zeros, wordOf, padded}
-use Rattle.memory.specs.Memory.{Memory, usable}
+use Rattle.memory.specs.Memory.{usable}
 use Rattle.area.specs.Layout.{slots, envelopeAt}
 use Rattle.area.specs.declared.Ring.{Ring}
 use Rattle.area.specs.declared.Ring.the-variants.{Command, Response}
 use Rattle.layout.specs.Facts.{AreaFacts}
-use Rattle.plain.specs.Plain.{Entry, entry, Bounds, Plain, Closed, done, got}
-use Rattle.plain.specs.Log.{Op, sends, fetches, posts, takes, creditsIn}
+use Rattle.plain.specs.Plain.{Entry, Bounds, Plain, done, got}
+use Rattle.plain.specs.Log.{sends, fetches, posts, takes, creditsIn}
 use Rattle.port.specs.Post.{creditsOf}
 use Rattle.port.specs.declared.state.Cursor as PortCursor
 use Rattle.port.specs.declared.state.Stage.{Stage}
 use Rattle.port.specs.declared.state.Stage.the-variants as S
-use Rattle.port.specs.declared.state.TailStage.{TailStage}
 use Rattle.port.specs.declared.state.Fetcher.{Fetcher}
 use Rattle.port.specs.declared.state.Fetcher.the-variants.{NoFetch, Fetching, FetchTail}
 use Rattle.port.specs.declared.state.Poster.{Poster}
@@ -37,7 +36,7 @@ use Rattle.host.specs.declared.state.Taker.{Taker}
 use Rattle.host.specs.declared.state.Taker.the-variants.{NoTake, Taking}
 use Rattle.host.specs.declared.state.Host.{Host}
 use Rattle.traffic.specs.Places.{Place, envWord, Site, view}
-use Rattle.traffic.specs.Rings.{Letter, blank, RingInv}
+use Rattle.traffic.specs.Rings.{blank, RingInv}
 use Rattle.traffic.specs.Got.{Got}
 use Rattle.traffic.specs.World.{Bytes, World}
 use Rattle.traffic.specs.Play.{Job, idle, waiting, over, Play, game}

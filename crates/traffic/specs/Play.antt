@@ -1,6 +1,5 @@
 -- The plain machine under the same calls: each operation is done whole, at one of its own steps, and its answer told at that step or
 -- a later one of its own. The moments are chosen by whoever runs it.
-use Prim.Native.Nat.{ℕ, _+_}
 use mathlib.Core.Bool.{Bool, true, false, cond, _&&_}
 use mathlib.Core.List.{List, [], _∷_}
 use lib.Dec.{leb, eqb}
@@ -9,7 +8,7 @@ use Rattle.words.specs.Fields.{of, isSet, er, fatalCode}
 use Rattle.texts.specs.Texts.{zeros, padded}
 use Rattle.answers.specs.Told as Told
 use Rattle.host.specs.Shake as Shake
-use Rattle.plain.specs.Plain.{Bounds, Plain, Closed, done, got, refused, Result}
+use Rattle.plain.specs.Plain.{Bounds, Plain, Closed, done, got, refused}
 use Rattle.plain.specs.Log.{Op, sends, fetches, posts, takes, does, Log, noted}
 use Rattle.traffic.specs.World.{Ev, beginSend, stepSend, beginTake, stepTake, beginFetch, stepFetch, beginPost, stepPost, clearMark, readSa, writeSa, showSa, timeIsUp, Heard, Ans, call, word, asked}
 
@@ -121,7 +120,7 @@ ends b (m ∷ ms) (e ∷ es) s = ends b ms es (play b m e s .next)
 abbrev pub loggedJob : Bounds → Bool → Job → Plain → Log → Log
 loggedJob b false j x l = l
 loggedJob b true idle x l = l
-loggedJob b true (waiting o) x l = noted o (does b o x .answer) l
+loggedJob b true (waiting o) x l = noted b o (does b o x .answer) l
 loggedJob b true (over c) x l = l
 
 abbrev pub logged : Bounds → Moment → Ev → Play → Log → Log

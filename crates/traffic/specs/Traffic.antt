@@ -1,28 +1,27 @@
 -- Demand 3, stated: where a run starts, and what is promised of it.
 use Prim.Native.Nat.{ℕ, _+_, _%_, _≤_, _<_}
 use mathlib.Core.Path.{_≡_}
-use mathlib.Core.Bool.{true, false}
+use mathlib.Core.Bool.{Bool, true, false, not, _||_}
+use lib.Dec.{eqb}
 use mathlib.Core.List.{List, [], _∷_}
 use lib.ListN.{length, getD}
 use Rattle.words.specs.Words.{addressBits}
-use Rattle.memory.specs.Memory.{Memory}
-use Rattle.answers.specs.Told.{told, done}
+use Rattle.answers.specs.Told.{Closing, going, done, refused, fatal, told}
 use Rattle.area.specs.Layout.{slots, areaLies}
-use Rattle.area.specs.declared.Area.{Area}
 use Rattle.area.specs.declared.Ring.the-variants.{Command, Response}
-use Rattle.plain.specs.Plain.{Entry, Bounds, Plain, start}
-use Rattle.plain.specs.Log.{nothing, Good}
+use Rattle.plain.specs.Plain.{Bounds, Plain, start}
+use Rattle.plain.specs.Log.{Log, nothing, Good}
 use Rattle.port.specs.Shake.{saOf}
 use Rattle.host.specs.Shake.{accepts, areaOf}
 use Rattle.host.specs.Setup.{setUpBy}
 use Rattle.host.specs.declared.state.Beginning.{Beginning}
-use Rattle.host.specs.declared.state.Taker.{Taker}
 use Rattle.meeting.specs.Meeting.{Pair, exchanges, opened}
 use Rattle.traffic.specs.Places.{Site, view}
 use Rattle.traffic.specs.Rings.{Letter, blank}
-use Rattle.traffic.specs.World.{World, world, Ev, beginSend, stepSend, beginTake, stepTake, beginFetch, stepFetch, beginPost, stepPost, clearMark, readSa, writeSa, showSa, timeIsUp, Proper, answers, final}
+use Rattle.traffic.specs.World.{World, world, Ev, beginSend, stepSend, beginTake, stepTake, beginFetch, stepFetch, beginPost, stepPost, clearMark, readSa, writeSa, showSa, timeIsUp, Proper, Ans, call, word, asked, act, Halves, answers, final}
 use Rattle.traffic.specs.Play.{Job, idle, Moment, Play, game, plays, ends, logs}
-use Rattle.traffic.specs.Invariant.{fetchJob, postJob, wholeFrom}
+use Rattle.traffic.specs.Watch.{watch, momentsOf}
+use Rattle.traffic.specs.Invariant.{wholeFrom}
 
 -- Every text of the calls is bytes.
 abbrev pub AllProper : List Ev → Type 0
@@ -54,7 +53,7 @@ abbrev pub met : Beginning → Pair → World
 met b x = world (exchanges 4 (opened b x) .host) (exchanges 4 (opened b x) .port) (exchanges 4 (opened b x) .memory)
 
 abbrev pub polled : Beginning → Pair → List Ev → World
-polled b x ps = final addressBits ps (met b x)
+polled b x ps = final (act addressBits) ps (met b x)
 
 abbrev pub started : Beginning → Pair → List Ev → ℕ → World
 started b x ps pool =
@@ -78,33 +77,62 @@ boundsOf b x = record { commands = slots (areaOf b) Command; responses = slots (
 abbrev pub siteOf : Beginning → ℕ → Site
 siteOf b pool = record { bits = addressBits; area = areaOf b; pool = pool }
 
--- What is promised of a run of calls es from world w, which stands for the play s.
-pub record Promise (g : Site) (b : Bounds) (es : List Ev) (w : World) (s : Play) : Type 0 where
-  -- one choice of moments, one for each call, with which the plain machine gives every answer
-  pub moments : List Moment
-  pub each : length moments ≡ length es
-  pub same : plays b moments es s ≡ answers addressBits es w
-  -- what it did at those moments keeps the order, each once, the queues' bounds, and the four that sum to the limit
-  pub good : Good b (logs b moments es s nothing) (ends b moments es s .plain)
+-- An answer that is neither refusal 9 nor 10 nor a fatal error.
+abbrev pub calmClosing : Closing → Bool
+calmClosing going = true
+calmClosing done = true
+calmClosing (refused k) = not (eqb k 9 || eqb k 10)
+calmClosing (fatal k) = false
+
+abbrev pub calmly : Ans → Bool
+calmly (call h) = calmClosing (h .closing)
+calmly (word w) = true
+calmly (asked q) = true
+
+abbrev pub AllCalm : List Ans → Type 0
+AllCalm [] = Unit {0}
+AllCalm (a ∷ rest) = (calmly a ≡ true) × AllCalm rest
+
+-- What one who sees only the calls and their answers makes of a run: the moments, the history, the plain machine at the end.
+module _ (f : Halves) (b : Bounds) (es : List Ev) (w : World) (s : Play) where
+  abbrev pub moments : List Moment
+  moments = momentsOf b es (answers f es w) (watch s 0 0)
+
+  abbrev pub history : Log
+  history = logs b moments es s nothing
+
+  abbrev pub reckoned : Plain
+  reckoned = ends b moments es s .plain
+
+-- What is promised of a run of calls es of two halves from world w, which stands for the play s. A run has every first part of it as a
+-- run too, so this holds after every call.
+pub record Promise (f : Halves) (g : Site) (b : Bounds) (es : List Ev) (w : World) (s : Play) : Type 0 where
+  -- one choice of moments, one for each call, at which the plain machine gives every answer
+  pub each : length (moments f b es w s) ≡ length es
+  pub same : plays b (moments f b es w s) es s ≡ answers f es w
+  -- the history keeps the order, each once, and the queues' bounds; the four are reckoned from it, and sum to the limit
+  pub good : Good b (history f b es w s) (reckoned f b es w s)
   -- what is stored agrees: account, commands unanswered, credits still to grant
-  pub account : ends b moments es s .plain .account ≡ final addressBits es w .host .counts .account
-  pub unanswered : ends b moments es s .plain .unanswered ≡ final addressBits es w .port .counts .unanswered
-  pub owed : ends b moments es s .plain .owed ≡ final addressBits es w .port .counts .owed
+  pub account : reckoned f b es w s .account ≡ final f es w .host .counts .account
+  pub unanswered : reckoned f b es w s .unanswered ≡ final f es w .port .counts .unanswered
+  pub owed : reckoned f b es w s .owed ≡ final f es w .port .counts .owed
   -- and the envelopes in memory: what the queues hold stands in the rings from the taker's slot on, with its bytes and credits
   -- (but for a response that the host has read and is about to give back)
-  pub commands-held : (k : ℕ) → k < length (ends b moments es s .plain .commands)
-      → Letter (view g (final addressBits es w .memory)) Command ((final addressBits es w .port .counts .fetch + k) % slots (g .area) Command) (getD (ends b moments es s .plain .commands) k blank)
-  pub responses-held : (k : ℕ) → wholeFrom 0 (final addressBits es w .host .taker) ≤ k → k < length (ends b moments es s .plain .responses)
-      → Letter (view g (final addressBits es w .memory)) Response ((final addressBits es w .host .counts .take + k) % slots (g .area) Response) (getD (ends b moments es s .plain .responses) k blank)
-  -- no fatal error
-  pub quiet : saOf (final addressBits es w .port) ≡ 0
+  pub commands-held : (k : ℕ) → k < length (reckoned f b es w s .commands)
+      → Letter (view g (final f es w .memory)) Command ((final f es w .port .counts .fetch + k) % slots (g .area) Command) (getD (reckoned f b es w s .commands) k blank)
+  pub responses-held : (k : ℕ) → wholeFrom 0 (final f es w .host .taker) ≤ k → k < length (reckoned f b es w s .responses)
+      → Letter (view g (final f es w .memory)) Response ((final f es w .host .counts .take + k) % slots (g .area) Response) (getD (reckoned f b es w s .responses) k blank)
+  -- no fatal error: SA reads 0, and no call answers 9 or 10 or a fatal code
+  pub quiet : saOf (final f es w .port) ≡ 0
+  pub calm : AllCalm (answers f es w)
 
 -- The plain machine at the start: empty, with what the port has begun and not stepped since it last polled.
 pub record AtStart (b : Beginning) (x : Pair) (ps : List Ev) (pool : ℕ) : Type 0 where
   pub fetcher : Job
   pub poster : Job
+  pub unpolled : ps ≡ [] → (fetcher ≡ idle) × (poster ≡ idle)
   pub promise : (es : List Ev) → AllProper es
-      → Promise (siteOf b pool) (boundsOf b x) es (started b x ps pool) (game (start (boundsOf b x)) idle idle fetcher poster)
+      → Promise (act addressBits) (siteOf b pool) (boundsOf b x) es (started b x ps pool) (game (start (boundsOf b x)) idle idle fetcher poster)
 
 abbrev pub EveryRun : Type 0
 EveryRun = (b : Beginning) (x : Pair) (ps : List Ev) (pool : ℕ) → Start b x ps pool → AtStart b x ps pool

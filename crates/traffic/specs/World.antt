@@ -1,7 +1,7 @@
 -- Host and port over one memory, and what may happen to them in a run: the halves' own calls, by the definitions that their
 -- contracts cite.
-use Prim.Native.Nat.{ℕ, _<_, _≤_}
-use mathlib.Core.Bool.{Bool, true, false}
+use Prim.Native.Nat.{ℕ, _<_}
+use mathlib.Core.Bool.{Bool}
 use mathlib.Core.List.{List, [], _∷_}
 use lib.ListN.{getD}
 use Rattle.memory.specs.Memory.{Memory}
@@ -100,26 +100,43 @@ byPortOnly w x = did (call (heardOf (x .told))) (world (w .host) (x .state) (w .
 abbrev pub byTurn : World → Turn → Did
 byTurn w x = did (asked (x .asks)) (world (x .state) (w .port) (w .memory))
 
+-- The steps of the four sides. Ours are those of the contracts; others can be tried in their place.
+pub record Steps : Type 0 where
+  pub send : ℕ → Host → Memory → HostState.Outcome
+  pub take : ℕ → Host → Memory → HostState.Outcome
+  pub fetch : ℕ → Port → Memory → PortState.Outcome
+  pub post : ℕ → Port → Memory → PortState.Outcome
+
+abbrev pub ours : Steps
+ours = record { send = sendStep; take = takeStep; fetch = fetchStep; post = postStep }
+
+abbrev pub actBy : Steps → ℕ → Ev → World → Did
+actBy k n (beginSend f t) w = byHostOnly w (sendBegun (w .host) (record { flag = f }) t)
+actBy k n stepSend w = byHost w (k .send n (w .host) (w .memory))
+actBy k n beginTake w = byHostOnly w (takeBegun (w .host))
+actBy k n stepTake w = byHost w (k .take n (w .host) (w .memory))
+actBy k n beginFetch w = byPortOnly w (fetchBegun (w .port))
+actBy k n stepFetch w = byPort w (k .fetch n (w .port) (w .memory))
+actBy k n (beginPost a t) w = byPortOnly w (postBegun (w .port) a t)
+actBy k n stepPost w = byPort w (k .post n (w .port) (w .memory))
+actBy k n (clearMark r) w = byHost w (indicatorCleared n (w .host) r (w .memory))
+actBy k n readSa w = did (word (saOf (w .port))) w
+actBy k n (writeSa x) w = byPort w (saWritten n (w .port) x (w .memory))
+actBy k n (showSa x) w = byTurn w (saSeen (w .host) x)
+actBy k n timeIsUp w = byTurn w (timeUp (w .host))
+
 abbrev pub act : ℕ → Ev → World → Did
-act n (beginSend f t) w = byHostOnly w (sendBegun (w .host) (record { flag = f }) t)
-act n stepSend w = byHost w (sendStep n (w .host) (w .memory))
-act n beginTake w = byHostOnly w (takeBegun (w .host))
-act n stepTake w = byHost w (takeStep n (w .host) (w .memory))
-act n beginFetch w = byPortOnly w (fetchBegun (w .port))
-act n stepFetch w = byPort w (fetchStep n (w .port) (w .memory))
-act n (beginPost a t) w = byPortOnly w (postBegun (w .port) a t)
-act n stepPost w = byPort w (postStep n (w .port) (w .memory))
-act n (clearMark r) w = byHost w (indicatorCleared n (w .host) r (w .memory))
-act n readSa w = did (word (saOf (w .port))) w
-act n (writeSa x) w = byPort w (saWritten n (w .port) x (w .memory))
-act n (showSa x) w = byTurn w (saSeen (w .host) x)
-act n timeIsUp w = byTurn w (timeUp (w .host))
+act n e w = actBy ours n e w
+
+-- Host and port as a run sees them: what each call answers and leaves.
+abbrev pub Halves : Type 0
+Halves = Ev → World → Did
 
 -- A run: what each call answered, and the world at the end.
-abbrev pub answers : ℕ → List Ev → World → List Ans
-answers n [] w = []
-answers n (e ∷ es) w = act n e w .ans ∷ answers n es (act n e w .next)
+abbrev pub answers : Halves → List Ev → World → List Ans
+answers f [] w = []
+answers f (e ∷ es) w = f e w .ans ∷ answers f es (f e w .next)
 
-abbrev pub final : ℕ → List Ev → World → World
-final n [] w = w
-final n (e ∷ es) w = final n es (act n e w .next)
+abbrev pub final : Halves → List Ev → World → World
+final f [] w = w
+final f (e ∷ es) w = final f es (f e w .next)

@@ -1,6 +1,7 @@
 // Traffic in any order: demand 3. The contract carries the theorem, so that it can't be lost unseen; the function counts the rings.
 ghost use mathlib.Core.Path.{_≡_};
 ghost use Rattle.traffic.specs.Instance.{EveryPair, MixedRun};
+ghost use Rattle.traffic.specs.ShutOut.{ShutOut};
 ghost use Rattle.traffic.specs.Traffic.{EveryRun};
 
 pub fn every_run() -> u16
@@ -21,4 +22,11 @@ pub fn mixed_run() -> u16
     ensures { λ r. ⌜ (r ≡ 44) × MixedRun ⌝ }
 {
     44
+}
+
+// What the promise shuts out: halves that differ from ours in one step break it. The function counts them.
+pub fn errors_shut_out() -> u16
+    ensures { λ r. ⌜ (r ≡ 6) × ShutOut ⌝ }
+{
+    6
 }

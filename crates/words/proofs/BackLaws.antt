@@ -1,15 +1,15 @@
 -- What is built is read back. Assumes nothing.
 use Prim.Native.Nat.{ℕ, _+_, _*_, _/_, _%_, _^_, _-_, _<_, _≤_}
-use mathlib.Core.Path.{_≡_, refl, sym, ap, ap₂, _∙_}
+use mathlib.Core.Path.{_≡_, refl, sym, ap, _∙_}
 use mathlib.Core.Bool.{Bool, true, false}
 use native.Mathlib.Omega.{arith}
 use lib.Dec.{eqb}
-use lib.Pow.{low, pow-add, mod-mod-pow, shr-lt}
+use lib.Pow.{low, mod-mod-pow, shr-lt}
 use native.Mathlib.Nat.{mod-eq-of-lt, mod-lt}
 use lib.Pow.{pow-pos}
 use borrow.Author.Tests.{eq-eqb, ne-eqb}
-use Rattle.words.specs.Fields.{Field, of, isSet, flag, er, stepBits, nv, qb, di, portType, echo, version, fatalCode, one, wr, commandExponent, responseExponent, ie, vector, upper, lower, pi, go, addressHigh, owner, flagged, kept, connection, messageType, credits}
-use Rattle.words.specs.Words.{step1Word, step2Word, step3Word, step4Word, fatalWord, firstWord, secondWord, goWord, addressOf, lowWord, withAddress, highWord, headerWord}
+use Rattle.words.specs.Fields.{of, flag, er, nv, qb, di, one, wr, ie, pi, owner, flagged, kept}
+use Rattle.words.specs.Words.{step1Word, step2Word, step3Word, step4Word, fatalWord, firstWord, secondWord, addressOf, lowWord, withAddress, highWord}
 use Rattle.words.specs.ReadBack.{Step1Back, Step2Back, Step3Back, Step4Back, FatalBack, FirstBack, HighBack, HeaderBack, ReadBack}
 use Rattle.words.proofs.Laws.{flag-lt}
 

@@ -1,12 +1,12 @@
 -- Shifts and masks are the fields' arithmetic: one law for a mask, one for an OR of fields that do not meet. Assumes nothing.
-use Prim.Native.Nat.{ℕ, _+_, _*_, _-_, _/_, _%_, _^_, _<_, _≤_}
+use Prim.Native.Nat.{ℕ, _+_, _*_, _-_, _/_, _%_, _^_, _<_}
 use mathlib.Core.Path.{_≡_, refl, sym, ap, ap₂, _∙_}
 use mathlib.Core.Bool.{Bool, true, false}
 use native.Mathlib.Omega.{arith}
-use native.Mathlib.Nat.{one-mul, mod-eq-of-lt, mod-lt}
+use native.Mathlib.Nat.{one-mul, mod-eq-of-lt}
 use lib.Bits.{bitAnd, bitOr, and-mask, and-high, or-shifted, or-shifted-r}
 use lib.Pow.{pow-lt}
-use Rattle.words.specs.Fields.{flag, of, upper, lower}
+use Rattle.words.specs.Fields.{flag, of}
 use Rattle.words.specs.Words.{step1Word, step2Word, step3Word, step4Word, fatalWord, firstWord, highWord, lowWord, withAddress, addressOf, addressBits}
 
 -- 1 shifted within a word

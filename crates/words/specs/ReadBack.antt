@@ -1,8 +1,8 @@
 -- What is built is read back: every field of every word that either half builds.
-use Prim.Native.Nat.{ℕ, _+_, _*_, _/_, _%_, _^_, _-_, _<_, _≤_}
+use Prim.Native.Nat.{ℕ, _%_, _^_, _<_, _≤_}
 use mathlib.Core.Path.{_≡_}
 use mathlib.Core.Bool.{Bool, true, false}
-use Rattle.words.specs.Fields.{Field, of, isSet, er, stepBits, nv, qb, di, portType, echo, version, fatalCode, one, wr, commandExponent, responseExponent, ie, vector, upper, lower, pi, go, owner, flagged, kept, connection, messageType, credits}
+use Rattle.words.specs.Fields.{of, isSet, er, stepBits, nv, qb, di, portType, echo, version, fatalCode, one, wr, commandExponent, responseExponent, ie, vector, upper, lower, pi, go, owner, flagged, kept, connection, messageType, credits}
 use Rattle.words.specs.Words.{step1Word, step2Word, step3Word, step4Word, fatalWord, firstWord, secondWord, goWord, addressOf, lowWord, withAddress, highWord, headerWord}
 
 pub record Step1Back (n q d : Bool) : Type 0 where

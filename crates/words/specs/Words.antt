@@ -1,8 +1,8 @@
 -- The words themselves, each as the sum of its fields, and what two words say together.
-use Prim.Native.Nat.{ℕ, _+_, _*_, _-_, _/_, _%_, _^_}
+use Prim.Native.Nat.{ℕ, _+_, _*_, _-_, _/_, _^_}
 use mathlib.Core.Bool.{Bool}
-use Rattle.words.specs.Fields.{Field, bits, bit, of, put, flag, er, s1, s2, s3, s4, nv, qb, di, portType, echo, version, fatalCode}
-use Rattle.words.specs.Fields.{one, wr, commandExponent, responseExponent, ie, vector, upper, lower, baseLow, go}
+use Rattle.words.specs.Fields.{bits, bit, of, put, flag, er, s1, s2, s3, s4, nv, qb, di, portType, echo, version, fatalCode}
+use Rattle.words.specs.Fields.{one, commandExponent, responseExponent, ie, vector, upper, lower, baseLow, go}
 use Rattle.words.specs.Fields.{addressLow, addressHigh, owner, flagged, kept, credits}
 
 -- How many bits an address has today.

@@ -16,7 +16,7 @@ unfolding table zeros usable lies cleared carriedOf leftOf slots base slotAt nex
 all-rows = refl
 
 returns : tie.Need-returns
-returns c = all-rows
+returns c = (refl, all-rows)
 
 pub marked-examples-spec : {M : Type 1} → statement M
 marked-examples-spec = tie.close (tie.spec returns)

@@ -1,4 +1,5 @@
 -- The four runs, each by its own file. Assumes nothing.
+use mathlib.Core.Path.{refl}
 use Rattle.progress.proofs.SendRun.{send-ends}
 use Rattle.progress.proofs.TakeRun.{take-ends}
 use Rattle.progress.proofs.FetchRun.{fetch-ends}
@@ -7,7 +8,7 @@ use Rattle.progress.proofs.every_operation_ends.Statement.{statement}
 use Rattle.progress.proofs.every_operation_ends.Tie as tie
 
 returns : tie.Need-returns
-returns c = record { send = send-ends; take = take-ends; fetch = fetch-ends; post = post-ends }
+returns c = (refl, record { send = send-ends; take = take-ends; fetch = fetch-ends; post = post-ends })
 
 pub every-operation-ends-spec : {M : Type 1} → statement M
 every-operation-ends-spec = tie.close (tie.spec returns)

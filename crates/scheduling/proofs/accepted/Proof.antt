@@ -1,5 +1,4 @@
 use Rattle.scheduling.proofs.ScheduleLaws.{takes-short, takes-long, takes-bits, takes-none, takes-rest}
-use mathlib.Core.Path.{sym, _∙_, ap}
 use borrow.Author.Needs.{needs}
 use Rattle.scheduling.proofs.accepted.Statement.{statement}
 use Rattle.scheduling.proofs.accepted.Tie as tie

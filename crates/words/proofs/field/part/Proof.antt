@@ -1,4 +1,3 @@
-use native.Mathlib.Omega.{arith}
 use lib.Pow.{pow-pos}
 use Rattle.words.proofs.Laws.{shifted-one, mask-is}
 use borrow.Author.Needs.{needs}

@@ -1,4 +1,4 @@
-use mathlib.Core.Path.{ap, _∙_, sym}
+use mathlib.Core.Path.{_∙_}
 use native.Mathlib.Omega.{arith}
 use Rattle.words.proofs.Laws.{shifted-one}
 use borrow.Author.Needs.{needs}

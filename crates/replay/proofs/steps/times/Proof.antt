@@ -1,0 +1,48 @@
+-- The loop: what is left falls, and the memory keeps its length. Assumes nothing.
+use Prim.Native.Nat.{_≤_}
+use mathlib.Core.Path.{_≡_}
+use lib.ListN.{length}
+use borrow.Author.Needs.{needs}
+use Rattle.replay.proofs.steps.times.Statement.{statement}
+use Rattle.replay.proofs.steps.times.Tie as tie
+
+abbrev Inv-loop : tie.InvT-loop
+Inv-loop side n mem₀ out₀ x₀ left₀ mem out x left = (left ≤ n) × (length mem ≡ length mem₀)
+
+abbrev μ-loop : tie.MeasureT-loop
+μ-loop side n mem₀ out₀ x₀ left₀ mem out x left = left
+
+loop-holds : tie.Need-loop-holds Inv-loop μ-loop
+loop-holds c = search needs
+
+step-requires : tie.Need-step-requires Inv-loop μ-loop
+step-requires c κs = search needs
+
+sub-left : tie.Need-sub-left Inv-loop μ-loop
+sub-left c = search needs
+
+loop-less : tie.Need-loop-less Inv-loop μ-loop
+loop-less c = search needs
+
+loop-again : tie.Need-loop-again Inv-loop μ-loop
+loop-again c = search needs
+
+same-length : tie.Need-same-length Inv-loop μ-loop
+same-length c = search needs
+
+returns : tie.Need-returns Inv-loop μ-loop
+returns c = search needs
+
+pub times-spec : {M : Type 1} → statement M
+times-spec =
+    tie.close
+    (tie.spec
+    Inv-loop
+    μ-loop
+    loop-holds
+    step-requires
+    sub-left
+    loop-less
+    loop-again
+    same-length
+    returns)

@@ -1,0 +1,57 @@
+// The calls of the host.
+use crate::stage;
+use crate::stage::Stage;
+use area::Ring;
+use host::state::Asked;
+use host::state::Beginning;
+use saying::part;
+use script::name::OnHost;
+use script::value::Text;
+
+fn beginning_of(n: [u32; 5]) -> Beginning {
+    Beginning {
+        command: stage::byte_of(n[0]),
+        response: stage::byte_of(n[1]),
+        interrupts: stage::bit_of(n[2]),
+        vector: stage::byte_of(n[3]),
+        base: n[4],
+    }
+}
+
+fn begin_send(x: Stage, flag: bool, text: Text, mem: &[u8], out: &mut [u8; 65536]) -> Stage {
+    let host = x.host;
+    let bytes = text.bytes;
+    let n = part::within(text.size, &bytes);
+    let r = host.begin_send(Asked { flag }, &bytes[..n]);
+    x.host_replied(r, mem, out)
+}
+
+fn clear(x: Stage, ring: Ring, mem: &mut [u8], out: &mut [u8; 65536]) -> Stage {
+    let host = x.host;
+    let r = host.clear_indicator(ring, mem);
+    x.host_replied(r, mem, out)
+}
+
+pub fn call(
+    x: Stage,
+    name: OnHost,
+    numbers: [u32; 5],
+    text: Text,
+    mem: &mut [u8],
+    out: &mut [u8; 65536],
+) -> Stage {
+    let host = x.host;
+    match name {
+        OnHost::Begin => x.host_asked(host.begin(beginning_of(numbers)), mem, out),
+        OnHost::SaSeen => x.host_asked(host.sa_seen(stage::word_of(numbers[0])), mem, out),
+        OnHost::TimeIsUp => x.host_asked(host.time_is_up(), mem, out),
+        OnHost::SetUp => {
+            let r = host.set_up(numbers[0], mem);
+            x.host_replied(r, mem, out)
+        }
+        OnHost::BeginSend => begin_send(x, stage::bit_of(numbers[0]), text, mem, out),
+        OnHost::BeginTake => x.host_replied(host.begin_take(), mem, out),
+        OnHost::ClearCommand => clear(x, Ring::Command, mem, out),
+        OnHost::ClearResponse => clear(x, Ring::Response, mem, out),
+    }
+}

@@ -1,0 +1,78 @@
+// The program of docs/SCRIPTS.md: reads a script of calls on standard input, makes them, and prints a line for each.
+mod made_on_host;
+mod made_on_port;
+mod made_on_stage;
+mod stage;
+mod steps;
+
+use saying::part;
+use script::name::Name;
+use script::order::Order;
+use stage::Stage;
+
+// The longest script.
+const LONGEST: usize = 1048576;
+
+// What an order asks. A call is lent the bytes that the script lends, and no more.
+fn obey(x: Stage, order: Order, mem: &mut [u8], out: &mut [u8; 65536]) -> Stage {
+    let name = order.name;
+    let numbers = order.numbers;
+    let text = order.text;
+    let lent = part::within(x.lent, mem);
+    match name {
+        Name::Nothing => x,
+        Name::Stage(call) => made_on_stage::call(x, call, numbers, mem, out),
+        Name::Port(call) => made_on_port::call(x, call, numbers, text, &mut mem[..lent], out),
+        Name::Host(call) => made_on_host::call(x, call, numbers, text, &mut mem[..lent], out),
+        Name::Steps(side) => steps::times(x, side, numbers[0], &mut mem[..lent], out),
+        Name::Unknown => x.stops(out),
+    }
+}
+
+// One line after the other, to the script's end or the first that is no call; where the last printed line ends.
+fn run(text: &[u8], mem: &mut [u8], out: &mut [u8; 65536]) -> usize {
+    let mut x = Stage::new();
+    let mut from = 0;
+    while from < text.len() {
+        let end = script::line::next_of(text, from, b'\n');
+        let order = script::order::order_of(&text[from..end]);
+        x = obey(x.next_line(), order, mem, out);
+        if x.over {
+            return x.at;
+        }
+        if text.len() <= end {
+            return x.at;
+        }
+        from = end + 1;
+    }
+    x.at
+}
+
+// A script of some bytes: all that its calls print.
+fn play(text: &[u8], n: usize, mem: &mut [u8], out: &mut [u8; 65536]) {
+    let k = part::within(n, text);
+    let left = run(&text[..k], mem, out);
+    stage::write(out, left);
+}
+
+// Room for a script and a byte more, to see whether it is longer. It is handed on whole, since the length of an array so large
+// is a fact that the check knows from the array's type and does not count.
+fn read(text: &mut [u8; 1048577]) -> usize {
+    io::read_full(0, text)
+}
+
+fn play_read(text: &[u8; 1048577], n: usize, mem: &mut [u8; 262400], out: &mut [u8; 65536]) {
+    if LONGEST < n {
+        io::write_all(1, b"script too long\n");
+        return;
+    }
+    play(text, n, mem, out);
+}
+
+fn main() {
+    let mut text = [0u8; 1048577];
+    let mut mem = [0u8; 262400];
+    let mut out = [0u8; 65536];
+    let n = read(&mut text);
+    play_read(&text, n, &mut mem, &mut out);
+}

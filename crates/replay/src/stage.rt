@@ -1,0 +1,186 @@
+// The stage: one host, one port, how many bytes are lent, and how far the script and the printed lines have come.
+use host::state::Host;
+use port::state::Made;
+use port::state::Port;
+use saying::answer;
+use saying::of_host;
+use saying::of_port;
+use saying::part;
+use saying::sum;
+
+// The buffer is written once it is half full: the other half has room for any line.
+const HALF: usize = 32768;
+
+// `line` is the number of the line that is read, `at` where its answer goes in the buffer, `over` whether the script has ended.
+pub struct Stage {
+    pub host: Host,
+    pub port: Port,
+    pub lent: usize,
+    pub line: u32,
+    pub at: usize,
+    pub over: bool,
+}
+
+// The numbers of an order in the places where they fit.
+pub fn bit_of(n: u32) -> bool {
+    n == 1
+}
+
+pub fn byte_of(n: u32) -> u8 {
+    (n % 256) as u8
+}
+
+pub fn word_of(n: u32) -> u16 {
+    (n % 65536) as u16
+}
+
+// Writes what stands in the buffer.
+pub fn write(out: &[u8], n: usize) {
+    let k = part::within(n, out);
+    io::write_all(1, &out[..k]);
+}
+
+// Makes room for a line.
+fn roomy(out: &mut [u8; 65536], at: usize) -> usize {
+    if at < HALF {
+        return at;
+    }
+    write(out, at);
+    0
+}
+
+// The end of a call's line: the memory's sum.
+fn closed(out: &mut [u8; 65536], at: usize, mem: &[u8]) -> usize {
+    let a = part::bar(out, at);
+    let b = sum::memory(out, a, mem);
+    part::end(out, b)
+}
+
+impl Stage {
+    // A host that has not begun, a port with all 0 and limit 1, and no byte lent.
+    pub fn new() -> Stage {
+        let made = Made {
+            nv: false,
+            qb: false,
+            di: false,
+            version: 0,
+            limit: 1,
+        };
+        let host = Host::new();
+        let r = Port::create(made);
+        let port = r.port;
+        Stage {
+            host,
+            port,
+            lent: 0,
+            line: 0,
+            at: 0,
+            over: false,
+        }
+    }
+
+    // The same, at this line of the script.
+    pub fn afresh(self) -> Stage {
+        let mut x = Stage::new();
+        x.line = self.line;
+        x.at = self.at;
+        x
+    }
+
+    pub fn next_line(mut self) -> Stage {
+        self.line = std::num::wrapping_add_u32(self.line, 1);
+        self
+    }
+
+    pub fn lends(mut self, n: usize) -> Stage {
+        self.lent = n;
+        self
+    }
+
+    pub fn printed(mut self, at: usize) -> Stage {
+        self.at = at;
+        self
+    }
+
+    pub fn with_host(self, host: Host) -> Stage {
+        let port = self.port;
+        Stage {
+            host,
+            port,
+            lent: self.lent,
+            line: self.line,
+            at: self.at,
+            over: self.over,
+        }
+    }
+
+    pub fn with_port(self, port: Port) -> Stage {
+        let host = self.host;
+        Stage {
+            host,
+            port,
+            lent: self.lent,
+            line: self.line,
+            at: self.at,
+            over: self.over,
+        }
+    }
+
+    // The start of this line's answer.
+    pub fn starts(self, out: &mut [u8; 65536]) -> usize {
+        let k = roomy(out, self.at);
+        part::start(out, k, self.line)
+    }
+
+    // The line is no call.
+    pub fn stops(mut self, out: &mut [u8; 65536]) -> Stage {
+        let a = self.starts(out);
+        let b = part::name(out, a, b"not a call");
+        self.at = part::end(out, b);
+        self.over = true;
+        self
+    }
+
+    // The port after a call whose answer is put: the rest of the line.
+    pub fn port_shown(self, port: Port, at: usize, mem: &[u8], out: &mut [u8; 65536]) -> Stage {
+        let a = part::bar(out, at);
+        let b = of_port::state(out, a, port);
+        let c = closed(out, b, mem);
+        self.with_port(port).printed(c)
+    }
+
+    // The host after a call whose answer is put: the rest of the line.
+    pub fn host_shown(self, host: Host, at: usize, mem: &[u8], out: &mut [u8; 65536]) -> Stage {
+        let a = part::bar(out, at);
+        let b = of_host::state(out, a, host);
+        let c = closed(out, b, mem);
+        self.with_host(host).printed(c)
+    }
+
+    // The whole line of a call that the port replied to.
+    pub fn port_replied(self, r: port::state::Stepped, mem: &[u8], out: &mut [u8; 65536]) -> Stage {
+        let port = r.port;
+        let reply = r.reply;
+        let a = self.starts(out);
+        let b = answer::reply(out, a, reply);
+        self.port_shown(port, b, mem, out)
+    }
+
+    // The whole line of a call that the host replied to.
+    pub fn host_replied(self, r: host::state::Stepped, mem: &[u8], out: &mut [u8; 65536]) -> Stage {
+        let host = r.host;
+        let reply = r.reply;
+        let a = self.starts(out);
+        let b = answer::reply(out, a, reply);
+        self.host_shown(host, b, mem, out)
+    }
+
+    // The whole line of a handshake call of the host.
+    pub fn host_asked(self, r: host::state::Shaken, mem: &[u8], out: &mut [u8; 65536]) -> Stage {
+        let host = r.host;
+        let act = r.act;
+        let a = self.starts(out);
+        let b = answer::act(out, a, act);
+        self.host_shown(host, b, mem, out)
+    }
+}

@@ -1,0 +1,178 @@
+// Rounds to be measured: a command sent, fetched, answered with its own text, and the answer taken, again and again.
+// Reads one line, `COMMAND RESPONSE SIZE COUNT`: the ring exponents, the texts' length and the number of rounds, in decimal.
+mod side;
+
+use answers::Reply;
+use host::state::Host;
+use port::state::Port;
+use saying::part;
+use saying::sum;
+use scheduling::opening;
+use script::line;
+use script::order;
+
+// Both halves, the step calls made, and the sum of the texts taken.
+struct Run {
+    host: Host,
+    port: Port,
+    steps: u32,
+    sum: u32,
+}
+
+// The text of round k: byte i is i + k, modulo 256.
+fn text_of(size: usize, k: u32) -> [u8; 60] {
+    let mut text = [0u8; 60];
+    let mut b = (k % 256) as u8;
+    let mut i = 0;
+    while i < 60 {
+        if size <= i {
+            return text;
+        }
+        text[i] = b;
+        b = std::num::wrapping_add_u8(b, 1);
+        i += 1;
+    }
+    text
+}
+
+// The sum with a text that was taken.
+fn summed(start: u32, reply: Reply) -> u32 {
+    let bytes = reply.bytes;
+    let n = part::within(reply.size as usize, &bytes);
+    sum::with_bytes(start, &bytes[..n])
+}
+
+// Two counts of step calls together. A million rounds make fewer than 2^28.
+fn and(a: u32, b: u32) -> u32 {
+    std::num::wrapping_add_u32(a, b)
+}
+
+// A command that was sent and fetched.
+struct Fetched {
+    host: Host,
+    port: Port,
+    command: Reply,
+    steps: u32,
+}
+
+// A command's way: sent and fetched.
+fn command(x: Run, text: &[u8], mem: &mut [u8]) -> Fetched {
+    let host = x.host;
+    let port = x.port;
+    let sent = side::send(host, text, mem);
+    let fetched = side::fetch(port, mem);
+    let host = sent.host;
+    let port = fetched.port;
+    let command = fetched.reply;
+    Fetched {
+        host,
+        port,
+        command,
+        steps: and(x.steps, and(sent.steps, fetched.steps)),
+    }
+}
+
+// Its answer's way: posted and taken.
+fn answer(x: Fetched, start: u32, mem: &mut [u8]) -> Run {
+    let host = x.host;
+    let port = x.port;
+    let command = x.command;
+    let posted = side::answer(port, command, mem);
+    let taken = side::take(host, mem);
+    let host = taken.host;
+    let port = posted.port;
+    let reply = taken.reply;
+    Run {
+        host,
+        port,
+        steps: and(x.steps, and(posted.steps, taken.steps)),
+        sum: summed(start, reply),
+    }
+}
+
+// One round.
+fn round(x: Run, size: usize, k: u32, mem: &mut [u8]) -> Run {
+    let text = text_of(size, k);
+    let n = part::within(size, &text);
+    let open = command(x, &text[..n], mem);
+    answer(open, x.sum, mem)
+}
+
+fn rounds(start: Run, size: usize, count: u32, mem: &mut [u8]) -> Run {
+    let mut x = start;
+    let mut k = 0u32;
+    while k < count {
+        x = round(x, size, k, mem);
+        k += 1;
+    }
+    x
+}
+
+// A port with limit 28 and a host that have met, base 8, pool 2048.
+fn met(command: u32, response: u32, mem: &mut [u8]) -> Run {
+    let x = opening::started((command % 8) as u8, (response % 8) as u8, 28, mem);
+    let host = x.host;
+    let port = x.port;
+    Run {
+        host,
+        port,
+        steps: 0,
+        sum: sum::START,
+    }
+}
+
+fn print(count: u32, x: Run) {
+    io::write_all(1, b"rounds ");
+    io::print_decimal(1, count as u64);
+    io::write_all(1, b" steps ");
+    io::print_decimal(1, x.steps as u64);
+    io::write_all(1, b" sum ");
+    io::print_hex(1, x.sum as u64, 8);
+    io::write_all(1, b"\n");
+}
+
+// What the four numbers ask.
+fn measure(n: [u32; 5], mem: &mut [u8]) {
+    let start = met(n[0], n[1], mem);
+    let x = rounds(start, n[2] as usize, n[3], mem);
+    print(n[3], x);
+}
+
+// Whether four numbers were read, and which.
+struct Asked {
+    good: bool,
+    numbers: [u32; 5],
+}
+
+// The four numbers of a line, each with the largest that it may be. An x would make a number hexadecimal.
+fn asked_in(text: &[u8]) -> Asked {
+    let r = order::numbers_of(text, 4, [7, 7, 60, 1000000, 0]);
+    let numbers = r.values;
+    let place = r.place;
+    let from = 0;
+    let decimal = line::next_of(text, from, b'x') == text.len();
+    let whole = if place.more { false } else { place.good };
+    Asked {
+        good: if decimal { whole } else { false },
+        numbers,
+    }
+}
+
+fn obey(input: &[u8], mem: &mut [u8]) {
+    let from = 0;
+    let end = line::next_of(input, from, b'\n');
+    let asked = asked_in(&input[from..end]);
+    if !asked.good {
+        io::write_all(1, b"usage: COMMAND RESPONSE SIZE COUNT\n");
+        return;
+    }
+    let numbers = asked.numbers;
+    measure(numbers, mem);
+}
+
+fn main() {
+    let mut input = [0u8; 128];
+    let n = io::read_full(0, &mut input);
+    let mut mem = [0u8; 32768];
+    obey(&input[..n], &mut mem);
+}

@@ -1,0 +1,67 @@
+-- Each of the wrong halves breaks the promise: the run is computed, and an answer or a number is another. Assumes nothing.
+use Prim.Native.Nat.{ℕ}
+use mathlib.Core.Path.{_≡_, ap}
+use mathlib.Core.List.{List}
+use native.Mathlib.Omega.{arith}
+use lib.ListN.{getD}
+use Rattle.texts.specs.Texts.{zeros, byteAt, withByte, wordOf, withText, padded}
+use Rattle.memory.specs.Memory.{usable, lies, inside, wordAt, withWord, cleared}
+use Rattle.rules.specs.Rules.{faultOf, carriedOf, leftOf}
+use Rattle.area.specs.Layout.{slots, base, slotAt, nextOf, beforeOf, alone, indicator, envelopeAt, hasVector, stepInterrupt, areaLies, areaCleared}
+use Rattle.area.specs.Setup.{fits, slotSet, slotsSet, setUp}
+use Rattle.port.specs.Shake.{created, saOf, firstHeard, saWritten}
+use Rattle.port.specs.Tail.{tailStart, tailTouch, tailAfter}
+use Rattle.port.specs.Fetch.{fetchTouch, fetchHigh, fetchLow, fetchOn, fetchHeader, fetchText, fetched, fetchRelease, fetchAfter, fetchTailed, fetchStep, fetchBegun}
+use Rattle.port.specs.Post.{creditsOf, postTouch, postHigh, postLow, postOn, posted, postRelease, postAfter, postTailed, postStep, postBegun}
+use Rattle.host.specs.State.{isReady}
+use Rattle.host.specs.Shake.{accepts, begun, expecting, saSeen}
+use Rattle.host.specs.Setup.{setUpBy}
+use Rattle.host.specs.Send.{sendTouch, sendLook, sendOn, sent, sendAfter, sendStep, sendBegun}
+use Rattle.host.specs.Take.{takeTouch, takeLook, takeOn, takeHeader, takeText, taken, takeClosed, takeAfter, takeStep, takeBegun}
+use Rattle.meeting.specs.Meeting.{opened, exchange, exchanges}
+use Rattle.plain.specs.Plain.{full, send, fetch, post, take}
+use Rattle.traffic.specs.World.{Ans}
+use Rattle.traffic.specs.Instance.{shown}
+use Rattle.traffic.specs.ShutOut.{Keeps, sendingBy, fetchingBy, postingBy, betweenTheWords, whileWriting, whileReading, sendNone, onceAround, ShutOut}
+use Rattle.traffic.specs.Errors.{highWordFirst, fetchedUnlooked, returnedUnread, fifteenEach, accountKept, owedKept}
+
+high-word-first : Keeps (sendingBy highWordFirst) betweenTheWords → ⊥
+unfolding zeros byteAt withByte wordOf withText padded usable lies inside wordAt withWord cleared faultOf carriedOf leftOf slots base slotAt nextOf beforeOf alone indicator envelopeAt hasVector stepInterrupt areaLies areaCleared fits slotSet slotsSet setUp created saOf firstHeard saWritten tailStart tailTouch tailAfter fetchTouch fetchHigh fetchLow fetchOn fetchHeader fetchText fetched fetchRelease fetchAfter fetchTailed fetchStep fetchBegun creditsOf postTouch postHigh postLow postOn posted postRelease postAfter postTailed postStep postBegun isReady accepts begun expecting saSeen setUpBy sendTouch sendLook sendOn sent sendAfter sendStep sendBegun takeTouch takeLook takeOn takeHeader takeText taken takeClosed takeAfter takeStep takeBegun opened exchange exchanges full send fetch post take
+high-word-first P = let z : _≡_ {A = ℕ} 7 100 = ap (λ (l : List Ans). getD (shown l) 12 0) (P .same) in
+    absurd (omega arith)
+
+fetched-unlooked : Keeps (fetchingBy fetchedUnlooked) whileWriting → ⊥
+unfolding zeros byteAt withByte wordOf withText padded usable lies inside wordAt withWord cleared faultOf carriedOf leftOf slots base slotAt nextOf beforeOf alone indicator envelopeAt hasVector stepInterrupt areaLies areaCleared fits slotSet slotsSet setUp created saOf firstHeard saWritten tailStart tailTouch tailAfter fetchTouch fetchHigh fetchLow fetchOn fetchHeader fetchText fetched fetchRelease fetchAfter fetchTailed fetchStep fetchBegun creditsOf postTouch postHigh postLow postOn posted postRelease postAfter postTailed postStep postBegun isReady accepts begun expecting saSeen setUpBy sendTouch sendLook sendOn sent sendAfter sendStep sendBegun takeTouch takeLook takeOn takeHeader takeText taken takeClosed takeAfter takeStep takeBegun opened exchange exchanges full send fetch post take
+fetched-unlooked P = let z : _≡_ {A = ℕ} 7 100 = ap (λ (l : List Ans). getD (shown l) 9 0) (P .same) in
+    absurd (omega arith)
+
+returned-unread : Keeps (fetchingBy returnedUnread) whileReading → ⊥
+unfolding zeros byteAt withByte wordOf withText padded usable lies inside wordAt withWord cleared faultOf carriedOf leftOf slots base slotAt nextOf beforeOf alone indicator envelopeAt hasVector stepInterrupt areaLies areaCleared fits slotSet slotsSet setUp created saOf firstHeard saWritten tailStart tailTouch tailAfter fetchTouch fetchHigh fetchLow fetchOn fetchHeader fetchText fetched fetchRelease fetchAfter fetchTailed fetchStep fetchBegun creditsOf postTouch postHigh postLow postOn posted postRelease postAfter postTailed postStep postBegun isReady accepts begun expecting saSeen setUpBy sendTouch sendLook sendOn sent sendAfter sendStep sendBegun takeTouch takeLook takeOn takeHeader takeText taken takeClosed takeAfter takeStep takeBegun opened exchange exchanges full send fetch post take
+returned-unread P = let z : _≡_ {A = ℕ} 6 100 = ap (λ (l : List Ans). getD (shown l) 45 0) (P .same) in
+    absurd (omega arith)
+
+fifteen-each : Keeps (postingBy fifteenEach) onceAround → ⊥
+unfolding zeros byteAt withByte wordOf withText padded usable lies inside wordAt withWord cleared faultOf carriedOf leftOf slots base slotAt nextOf beforeOf alone indicator envelopeAt hasVector stepInterrupt areaLies areaCleared fits slotSet slotsSet setUp created saOf firstHeard saWritten tailStart tailTouch tailAfter fetchTouch fetchHigh fetchLow fetchOn fetchHeader fetchText fetched fetchRelease fetchAfter fetchTailed fetchStep fetchBegun creditsOf postTouch postHigh postLow postOn posted postRelease postAfter postTailed postStep postBegun isReady accepts begun expecting saSeen setUpBy sendTouch sendLook sendOn sent sendAfter sendStep sendBegun takeTouch takeLook takeOn takeHeader takeText taken takeClosed takeAfter takeStep takeBegun opened exchange exchanges full send fetch post take
+fifteen-each P = let z : _≡_ {A = ℕ} 2 15 = P .account in
+    absurd (omega arith)
+
+account-kept : Keeps (sendingBy accountKept) sendNone → ⊥
+unfolding zeros byteAt withByte wordOf withText padded usable lies inside wordAt withWord cleared faultOf carriedOf leftOf slots base slotAt nextOf beforeOf alone indicator envelopeAt hasVector stepInterrupt areaLies areaCleared fits slotSet slotsSet setUp created saOf firstHeard saWritten tailStart tailTouch tailAfter fetchTouch fetchHigh fetchLow fetchOn fetchHeader fetchText fetched fetchRelease fetchAfter fetchTailed fetchStep fetchBegun creditsOf postTouch postHigh postLow postOn posted postRelease postAfter postTailed postStep postBegun isReady accepts begun expecting saSeen setUpBy sendTouch sendLook sendOn sent sendAfter sendStep sendBegun takeTouch takeLook takeOn takeHeader takeText taken takeClosed takeAfter takeStep takeBegun opened exchange exchanges full send fetch post take
+account-kept P = let z : _≡_ {A = ℕ} 0 1 = P .account in
+    absurd (omega arith)
+
+owed-kept : Keeps (postingBy owedKept) onceAround → ⊥
+unfolding zeros byteAt withByte wordOf withText padded usable lies inside wordAt withWord cleared faultOf carriedOf leftOf slots base slotAt nextOf beforeOf alone indicator envelopeAt hasVector stepInterrupt areaLies areaCleared fits slotSet slotsSet setUp created saOf firstHeard saWritten tailStart tailTouch tailAfter fetchTouch fetchHigh fetchLow fetchOn fetchHeader fetchText fetched fetchRelease fetchAfter fetchTailed fetchStep fetchBegun creditsOf postTouch postHigh postLow postOn posted postRelease postAfter postTailed postStep postBegun isReady accepts begun expecting saSeen setUpBy sendTouch sendLook sendOn sent sendAfter sendStep sendBegun takeTouch takeLook takeOn takeHeader takeText taken takeClosed takeAfter takeStep takeBegun opened exchange exchanges full send fetch post take
+owed-kept P = let z : _≡_ {A = ℕ} 0 1 = P .owed in
+    absurd (omega arith)
+
+pub shut-out : ShutOut
+shut-out =
+    record {
+      high-word-first = high-word-first;
+      fetched-unlooked = fetched-unlooked;
+      returned-unread = returned-unread;
+      fifteen-each = fifteen-each;
+      account-kept = account-kept;
+      owed-kept = owed-kept;
+    }
