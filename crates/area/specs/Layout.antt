@@ -59,10 +59,14 @@ indicatorBack Response = 2
 unfoldable pub indicator : ℕ → Area → Ring → ℕ → Touch
 indicator n a r v = cond (leb (indicatorBack r) (base n a)) (Write (base n a - indicatorBack r) v) Below
 
--- "the host's envelopes are 64 bytes each, response slots first, then command slots, in a pool": where a slot's envelope starts.
+-- "the host's envelopes are 64 bytes each".
+abbrev pub envelopeBytes : ℕ
+envelopeBytes = 64
+
+-- "response slots first, then command slots, in a pool": where a slot's envelope starts.
 -- Its length stands there, its header 2 bytes on, its text 4 bytes on.
 unfoldable pub envelopeAt : Area → ℕ → Ring → ℕ → ℕ
-envelopeAt a pool r i = pool + 64 * numberOf a r i
+envelopeAt a pool r i = pool + envelopeBytes * numberOf a r i
 
 -- "An indicator write reports an interrupt if the vector is not 0."
 unfoldable pub hasVector : ℕ → Bool

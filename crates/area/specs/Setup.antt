@@ -4,13 +4,14 @@ use mathlib.Core.Bool.{Bool, cond, _&&_, _||_}
 use lib.Dec.{leb, ltb, eqb}
 use Rattle.words.specs.Words.{lowWord, withAddress, highWord}
 use Rattle.memory.specs.Memory.{Memory, withWord, cleared}
-use Rattle.area.specs.Layout.{slots, slotCount, base, ringsEnd}
+use Rattle.texts.specs.Texts.{room}
+use Rattle.area.specs.Layout.{slots, slotCount, base, ringsEnd, envelopeBytes}
 use Rattle.area.specs.declared.Area.{Area}
 use Rattle.area.specs.declared.Ring.the-variants.{Response}
 
 -- Where the pool ends: 64 bytes for every slot.
 abbrev pub poolEnd : Area → ℕ → ℕ
-poolEnd a pool = pool + 64 * slotCount a
+poolEnd a pool = pool + envelopeBytes * slotCount a
 
 -- Two stretches that do not meet.
 abbrev pub apart : ℕ → ℕ → ℕ → ℕ → Bool
@@ -27,14 +28,14 @@ abbrev pub toPort : Area → ℕ → Bool
 toPort a j = ltb j (slots a Response)
 
 abbrev pub withLength : ℕ → Area → ℕ → ℕ → Memory → Memory
-withLength n a pool j m = cond (toPort a j) (withWord n m (pool + 64 * j) 60) m
+withLength n a pool j m = cond (toPort a j) (withWord n m (pool + envelopeBytes * j) room) m
 
 unfoldable pub slotSet : ℕ → Area → ℕ → ℕ → Memory → Memory
 slotSet n a pool j m =
     withWord n
-    (withWord n (withLength n a pool j m) (base n a + 4 * j) (lowWord (pool + 64 * j + 4)))
+    (withWord n (withLength n a pool j m) (base n a + 4 * j) (lowWord (pool + envelopeBytes * j + 4)))
     (base n a + 4 * j + 2)
-    (highWord (toPort a j) (toPort a j) (withAddress n 0 (pool + 64 * j + 4)))
+    (highWord (toPort a j) (toPort a j) (withAddress n 0 (pool + envelopeBytes * j + 4)))
 
 -- The first k slots set, in order.
 unfoldable pub slotsSet : ℕ → Area → ℕ → ℕ → Memory → Memory

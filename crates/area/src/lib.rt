@@ -16,6 +16,9 @@ use memory::Touch;
 use words::descriptor;
 use words::hostword;
 
+// The bytes of an envelope in the host's pool.
+pub const ENVELOPE: usize = 64;
+
 // The host's Step 1, Step 2 and Step 3 words.
 pub struct Area {
     pub first: u16,
@@ -122,7 +125,7 @@ impl Area {
     pub fn envelope_at(self, pool: u32, ring: Ring, i: u8) -> usize
         ensures { λ r. ⌜ (r ≡ envelopeAt self pool ring i) × (r < 4295000000) ⌝ }
     {
-        pool as usize + 64 * self.number(ring, i)
+        pool as usize + ENVELOPE * self.number(ring, i)
     }
 
     // The slot after a slot.

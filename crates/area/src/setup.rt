@@ -3,6 +3,7 @@ ghost use Prim.Native.Nat.{_<_};
 ghost use Rattle.words.specs.Words.{addressBits};
 ghost use Rattle.area.specs.Setup.{fits, withLength, slotSet, setUp};
 use crate::Area;
+use crate::ENVELOPE;
 use crate::Ring;
 use words::descriptor;
 
@@ -14,7 +15,7 @@ pub fn fits_in(area: Area, pool: u32, end: usize) -> bool
     let base = area.base_of();
     let rings_end = base + 4 * count;
     let start = pool as usize;
-    let pool_end = start + 64 * count;
+    let pool_end = start + ENVELOPE * count;
     if start % 2 != 0 {
         return false;
     }
@@ -39,7 +40,7 @@ fn set_length(area: Area, pool: u32, j: usize, mem: &mut [u8])
     ensures { λ r. ⌜ now (mem .exit) ≡ withLength addressBits area pool j (now (mem .entry)) ⌝ }
 {
     if j < area.slots_of(Ring::Response) as usize {
-        memory::write_word(mem, pool as usize + 64 * j, 60);
+        memory::write_word(mem, pool as usize + ENVELOPE * j, texts::LENGTH);
     }
 }
 
@@ -49,7 +50,7 @@ fn set_slot(area: Area, pool: u32, j: usize, mem: &mut [u8])
     ensures { λ r. ⌜ now (mem .exit) ≡ slotSet addressBits area pool j (now (mem .entry)) ⌝ }
 {
     set_length(area, pool, j, mem);
-    let text = pool as usize + 64 * j + 4;
+    let text = pool as usize + ENVELOPE * j + 4;
     let slot = area.base_of() + 4 * j;
     let to_port = j < area.slots_of(Ring::Response) as usize;
     memory::write_word(mem, slot, descriptor::low_word(text));
@@ -63,7 +64,7 @@ pub fn set_up(area: Area, pool: u32, mem: &mut [u8])
 {
     let count = area.count() as usize;
     let start = pool as usize;
-    memory::clear_part(mem, start, start + 64 * count);
+    memory::clear_part(mem, start, start + ENVELOPE * count);
     let mut j = 0;
     while j < count {
         set_slot(area, pool, j, mem);

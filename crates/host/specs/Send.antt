@@ -6,7 +6,7 @@ use lib.Dec.{leb, ltb, eqb}
 use lib.ListN.{length}
 use Rattle.words.specs.Fields.{isSet, owner}
 use Rattle.words.specs.Words.{lowWord, withAddress, highWord}
-use Rattle.texts.specs.Texts.{wordsOf, wordOf, padded}
+use Rattle.texts.specs.Texts.{wordsOf, room, wordOf, padded}
 use Rattle.memory.specs.Memory.{Memory}
 use Rattle.memory.specs.OneWord.{found, left}
 use Rattle.memory.specs.declared.Word.{Word}
@@ -85,7 +85,7 @@ sendStep n h m = cond (isReady h) (sendBySide n h m (h .sender)) (with-memory (r
 -- Beginning a send of a text: refusals 1, 2, 3 in that order; it touches no memory.
 abbrev pub sendWith : Host → Asked → List ℕ → Next
 sendWith h x text =
-    cond (leb (length text) 60)
+    cond (leb (length text) room)
     (onward (withSender (withOutgoing h (padded text)) (Sending Look (startOf (h .counts .send) (length text) (x .flag)))))
     (record { told = refusal 3; state = h })
 

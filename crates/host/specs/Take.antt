@@ -4,7 +4,7 @@ use mathlib.Core.Bool.{true, false, cond}
 use lib.Dec.{leb, ltb}
 use Rattle.words.specs.Fields.{of, isSet, owner, connection, messageType, credits}
 use Rattle.words.specs.Words.{highWord}
-use Rattle.texts.specs.Texts.{zeros, wordsOf, withText}
+use Rattle.texts.specs.Texts.{wordsOf, room, zeros, withText}
 use Rattle.memory.specs.Memory.{Memory}
 use Rattle.memory.specs.OneWord.{found, left}
 use Rattle.memory.specs.declared.Word.{Word}
@@ -12,7 +12,7 @@ use Rattle.memory.specs.declared.Word.the-variants.{Value, Outside}
 use Rattle.memory.specs.declared.Touch.{Touch}
 use Rattle.memory.specs.declared.Touch.the-variants.{Read, Write}
 use Rattle.answers.specs.Told.{refusal, carried}
-use Rattle.rules.specs.Rules.{faultOf}
+use Rattle.rules.specs.Rules.{faultOf, mostAccount}
 use Rattle.rules.specs.declared.Fault.{Fault}
 use Rattle.rules.specs.declared.Fault.the-variants.{Sound, Unsound}
 use Rattle.area.specs.Layout.{slotAt, nextOf, envelopeAt}
@@ -35,7 +35,7 @@ takeTouch n h Look c = Read (slotAt n (h .area) Response (c .slot) + 2)
 takeTouch n h Length c = Read (takeEnvelope h c)
 takeTouch n h Header c = Read (takeEnvelope h c + 2)
 takeTouch n h Text c = Read (takeEnvelope h c + 4 + 2 * c .at)
-takeTouch n h Refill c = Write (takeEnvelope h c) 60
+takeTouch n h Refill c = Write (takeEnvelope h c) room
 takeTouch n h Give c = Write (slotAt n (h .area) Response (c .slot) + 2) (highWord true true (c .high))
 
 -- A refusal ends the take and changes nothing else.
@@ -53,7 +53,7 @@ takeOn c k = cond (ltb k (wordsOf (c .size))) (Taking Text (withAt c k)) (Taking
 -- Refusal 9: "take, after the header: length over 60, type not 0, connection not 0, or account plus its credits above 255".
 abbrev pub takeSound : Host → Cursor → ℕ → Fault → Next
 takeSound h c k (Unsound x) = refuseTake h 9
-takeSound h c k Sound = cond (leb (h .counts .account + k) 255) (onward (withTaker h (takeOn (withCredits c k) 0))) (refuseTake h 9)
+takeSound h c k Sound = cond (leb (h .counts .account + k) mostAccount) (onward (withTaker h (takeOn (withCredits c k) 0))) (refuseTake h 9)
 
 unfoldable pub takeHeader : Host → Cursor → ℕ → Next
 takeHeader h c v = takeSound h c (of credits v) (faultOf (of messageType v) (of connection v) (c .size))
@@ -64,7 +64,7 @@ takeText h c v = onward (withTaker (withIncoming h (withText (h .incoming) (c .s
 -- The high-word write: the account gains the envelope's credits, "account at most 255".
 unfoldable pub taken : Host → Cursor → Host
 taken h c =
-    withCounts h (record { send = h .counts .send; take = nextOf (h .area) Response (c .slot); account = min (h .counts .account + c .credits) 255 })
+    withCounts h (record { send = h .counts .send; take = nextOf (h .area) Response (c .slot); account = min (h .counts .account + c .credits) mostAccount })
 
 -- "The result carries the text in 60 bytes, zero beyond its length."
 unfoldable pub takeClosed : Host → Cursor → Next

@@ -30,7 +30,7 @@ pub fn accepted(b: Beginning) -> bool
     if b.base % 2 != 0 {
         return false;
     }
-    b.base < 262144
+    b.base < words::descriptor::END
 }
 
 // The three words of a beginning.

@@ -42,7 +42,7 @@ impl Host {
             TakeStage::Length => Touch::Read(envelope),
             TakeStage::Header => Touch::Read(envelope + 2),
             TakeStage::Text => Touch::Read(envelope + 4 + 2 * (c.at as usize)),
-            TakeStage::Refill => Touch::Write(envelope, 60),
+            TakeStage::Refill => Touch::Write(envelope, texts::LENGTH),
             TakeStage::Give => Touch::Write(slot + 2, descriptor::high_word(true, true, c.high)),
         }
     }
@@ -79,7 +79,7 @@ impl Host {
         match fault {
             Fault::Unsound(_) => self.take_refused(Refusal::BadEnvelope),
             Fault::Sound => {
-                if self.counts.account as u16 + credits as u16 <= 255 {
+                if self.counts.account as u16 + credits as u16 <= rules::MOST_ACCOUNT {
                     self.take_goes(take_on(c.with_credits(credits), 0))
                 } else {
                     self.take_refused(Refusal::BadEnvelope)
@@ -101,7 +101,11 @@ impl Host {
     {
         let area = self.area;
         let sum = self.counts.account as u16 + c.credits as u16;
-        let account = if sum < 255 { sum as u8 } else { 255 };
+        let account = if sum < rules::MOST_ACCOUNT {
+            sum as u8
+        } else {
+            255
+        };
         let counts = Counts {
             send: self.counts.send,
             take: area.next(Ring::Response, c.slot),

@@ -8,7 +8,7 @@ ghost use Rattle.memory.specs.Memory.{usable, inside, lies, wordAt, with
 ghost use Rattle.memory.specs.OneWord.{found, left};
 
 // The first address past 18 bits: bytes from here on are never touched.
-const END: usize = 262144;
+const END: usize = words::descriptor::END as usize;
 
 // What stands at an address: a word, or nothing of this memory.
 pub enum Word {

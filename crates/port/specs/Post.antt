@@ -7,7 +7,7 @@ use lib.Dec.{leb, ltb, eqb}
 use lib.ListN.{length}
 use Rattle.words.specs.Fields.{isSet, owner, flagged}
 use Rattle.words.specs.Words.{addressOf, highWord, headerWord}
-use Rattle.texts.specs.Texts.{wordsOf, wordOf, padded}
+use Rattle.texts.specs.Texts.{wordsOf, room, wordOf, padded}
 use Rattle.memory.specs.Memory.{Memory, usable}
 use Rattle.memory.specs.OneWord.{found, left}
 use Rattle.memory.specs.declared.Word.{Word}
@@ -132,7 +132,7 @@ postStep n p m = postAt n p m (siteOf (p .phase))
 -- Beginning a post of a text, as an answer or unsolicited: refusals 1, 2, 3, 4 in that order; it touches no memory.
 abbrev pub postWith : Port → Bool → List ℕ → Next
 postWith p answers text =
-    cond (leb (length text) 60)
+    cond (leb (length text) room)
     (cond (answers && eqb (p .counts .unanswered) 0)
     (record { told = refusal 4; state = p })
     (onward (withPoster (withOutgoing p (padded text)) (Posting High (startOf (p .counts .post) (length text) answers)))))

@@ -7,6 +7,7 @@ use Rattle.words.specs.Words.{step1Word, step2Word, step3Word, step4Word, fatal
 use Rattle.memory.specs.Memory.{Memory}
 use Rattle.answers.specs.Told.{told, refusal, done, fatal, fatalNumber}
 use Rattle.answers.specs.declared.Fatal.the-variants.{RingWrite}
+use Rattle.rules.specs.Rules.{mostLimit}
 use Rattle.area.specs.Layout.{stepInterrupt, areaLies, areaCleared}
 use Rattle.area.specs.declared.Area.{Area}
 use Rattle.port.specs.State.{Next, Outcome, with-memory, withPhase, withFetcher, withPoster, fresh}
@@ -23,7 +24,7 @@ withLimit x l = record { nv = x .nv; qb = x .qb; di = x .di; version = x .versio
 
 unfoldable pub created : Made → Next
 created x =
-    cond (leb 1 (x .limit) && leb (x .limit) 64)
+    cond (leb 1 (x .limit) && leb (x .limit) mostLimit)
     (record { told = told done false; state = fresh x })
     (record { told = refusal 11; state = fresh (withLimit x 1) })
 

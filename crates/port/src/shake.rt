@@ -26,7 +26,7 @@ impl Port {
         if limit < 1 {
             return Port::limited(made);
         }
-        if 64 < limit {
+        if rules::MOST_LIMIT < limit {
             return Port::limited(made);
         }
         Port::new(made).said(Said::Done)

@@ -25,19 +25,19 @@ module _ (k c s : ℕ) where
   other-type e = rw (ne-eqb k 0 e)
 
 -- what an answer carries, and what is left
-pub carried-few : (g : ℕ) → g < 14 → g + 1 ≡ carriedOf g
+pub carried-few : (g : ℕ) → g < 15 → g + 1 ≡ carriedOf g
 unfolding carriedOf
 carried-few g h = omega arith
 
-pub carried-most : (g : ℕ) → 14 ≤ g → 15 ≡ carriedOf g
+pub carried-most : (g : ℕ) → 15 ≤ g → 15 ≡ carriedOf g
 unfolding carriedOf
 carried-most g h = omega arith
 
-pub left-few : (g : ℕ) → g < 14 → 0 ≡ leftOf g
+pub left-few : (g : ℕ) → g < 15 → 0 ≡ leftOf g
 unfolding leftOf carriedOf
 left-few g h = omega arith
 
-pub left-most : (g : ℕ) → 14 ≤ g → g - 14 ≡ leftOf g
+pub left-most : (g : ℕ) → 15 ≤ g → g - 14 ≡ leftOf g
 unfolding leftOf carriedOf
 left-most g h = omega arith
 

@@ -2,6 +2,7 @@
 use Prim.Native.Nat.{ℕ, _+_, _-_, min}
 use mathlib.Core.Bool.{cond}
 use lib.Dec.{leb, eqb}
+use Rattle.texts.specs.Texts.{room}
 use Rattle.answers.specs.declared.Fatal.the-variants.{InvalidConnection, Incompatible}
 use Rattle.rules.specs.declared.Fault.{Fault}
 use Rattle.rules.specs.declared.Fault.the-variants.{Sound, Unsound}
@@ -9,11 +10,21 @@ use Rattle.rules.specs.declared.Fault.the-variants.{Sound, Unsound}
 -- "type not 0, 20; connection not 0, 14; length over 60, 20", in that order.
 unfoldable pub faultOf : ℕ → ℕ → ℕ → Fault
 faultOf kind connection size =
-    cond (eqb kind 0) (cond (eqb connection 0) (cond (leb size 60) Sound (Unsound Incompatible)) (Unsound InvalidConnection)) (Unsound Incompatible)
+    cond (eqb kind 0) (cond (eqb connection 0) (cond (leb size room) Sound (Unsound Incompatible)) (Unsound InvalidConnection)) (Unsound Incompatible)
+
+-- "limit 1 to 64 (*house*); account at most 255"; "at most 15".
+abbrev pub mostLimit : ℕ
+mostLimit = 64
+
+abbrev pub mostAccount : ℕ
+mostAccount = 255
+
+abbrev pub mostCarried : ℕ
+mostCarried = 15
 
 -- "Each posted answer to a command carries 1 + (still to grant), at most 15,
 unfoldable pub carriedOf : ℕ → ℕ
-carriedOf owed = min (1 + owed) 15
+carriedOf owed = min (1 + owed) mostCarried
 
 -- and reduces what is still to grant by one less than it carries."
 unfoldable pub leftOf : ℕ → ℕ

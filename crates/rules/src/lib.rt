@@ -10,6 +10,16 @@ pub enum Fault {
     Unsound(Fatal),
 }
 
+// "limit 1 to 64 (house)"; "account at most 255"; an answer carries "at most 15".
+pub const MOST_LIMIT: u8 = 64;
+
+pub const MOST_ACCOUNT: u16 = 255;
+
+pub const MOST_CARRIED: u8 = 15;
+
+// "by one less than it carries", where it carries most.
+const ONE_LESS: u8 = MOST_CARRIED - 1;
+
 // Decides by message type, connection and length.
 pub fn fault_of(kind: u16, connection: u16, size: u16) -> Fault
     ensures { λ r. ⌜ r ≡ faultOf kind connection size ⌝ }
@@ -30,12 +40,20 @@ pub fn fault_of(kind: u16, connection: u16, size: u16) -> Fault
 pub fn carried_of(owed: u8) -> u8
     ensures { λ r. ⌜ r ≡ carriedOf owed ⌝ }
 {
-    if owed < 14 { owed + 1 } else { 15 }
+    if owed < MOST_CARRIED {
+        owed + 1
+    } else {
+        MOST_CARRIED
+    }
 }
 
 // What is still to grant after it.
 pub fn left_of(owed: u8) -> u8
     ensures { λ r. ⌜ r ≡ leftOf owed ⌝ }
 {
-    if owed < 14 { 0 } else { owed - 14 }
+    if owed < MOST_CARRIED {
+        0
+    } else {
+        owed - ONE_LESS
+    }
 }

@@ -9,7 +9,7 @@ use lib.ListN.{length, getD, set, replicate}
 abbrev pub wordsOf : ℕ → ℕ
 wordsOf size = (size + 1) / 2
 
--- A text stands in a room of 60 bytes.
+-- "text 0 to 60 bytes": a text stands in a room of 60 bytes.
 abbrev pub room : ℕ
 room = 60
 

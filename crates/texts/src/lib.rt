@@ -4,8 +4,10 @@ ghost use Prim.Native.Nat.{_≤_};
 ghost use lib.ListN.{length};
 ghost use Rattle.texts.specs.Texts.{wordsOf, zeros, byteAt, withByte, wordOf, withText, padded};
 
-// The longest text.
+// The longest text, as a number of bytes and as a length word.
 pub const LONGEST: usize = 60;
+
+pub const LENGTH: u16 = 60;
 
 // How many words a text of some length has.
 pub fn words_of(size: u16) -> usize
@@ -25,14 +27,14 @@ pub fn blank() -> [u8; 60]
 pub fn byte_at(text: &[u8; 60], i: usize) -> u8
     ensures { λ r. ⌜ r ≡ byteAt (now (text .entry)) i ⌝ }
 {
-    if i < 60 { text[i] } else { 0 }
+    if i < LONGEST { text[i] } else { 0 }
 }
 
 // Stores a byte of the room; past its end nothing changes.
 pub fn put_byte(text: &mut [u8; 60], i: usize, b: u8)
     ensures { λ r. ⌜ now (text .exit) ≡ withByte (now (text .entry)) i b ⌝ }
 {
-    if i < 60 {
+    if i < LONGEST {
         text[i] = b;
     }
 }

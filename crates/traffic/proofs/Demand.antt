@@ -8,6 +8,7 @@ use native.Mathlib.Nat.{mod-add-mod}
 use lib.ListN.{length, getD, drop, length-drop}
 use lib.Seq.{getD-drop}
 use Rattle.words.specs.Words.{addressBits, goWord}
+use Rattle.texts.specs.Texts.{padded}
 use Rattle.memory.specs.Memory.{Memory, usable}
 use Rattle.answers.specs.Told.{Told, told, done, refused}
 use Rattle.area.specs.Layout.{slots, slotCount, base, slotAt, ringsEnd, envelopeAt, areaCleared}
@@ -34,6 +35,7 @@ use Rattle.host.specs.Shake.{areaOf}
 use Rattle.host.specs.Setup.{readied, setUpBy}
 use Rattle.host.specs.declared.state.Shake.the-variants.{Finished}
 use Rattle.host.specs.declared.state.Beginning.{Beginning}
+use Rattle.host.specs.declared.state.Cursor.{Cursor}
 use Rattle.host.specs.declared.state.Taker.{Taker}
 use Rattle.host.specs.declared.state.Taker.the-variants.{NoTake, Taking}
 use Rattle.host.specs.declared.state.TakeStage.the-variants as T
@@ -44,7 +46,7 @@ use Rattle.traffic.specs.Places.{Site, view}
 use Rattle.traffic.specs.Rings.{Letter, blank, RingInv}
 use Rattle.traffic.specs.World.{World, world, Ev, act, final}
 use Rattle.traffic.specs.Play.{idle, Play, game}
-use Rattle.traffic.specs.Invariant.{Past, FetchInv, PostInv, wholeFrom, Inv, Setting, fetchJob, postJob, plainOf, playOf}
+use Rattle.traffic.specs.Invariant.{Past, FetchInv, PostInv, wholeFrom, Inv, Setting, fetchJob, postJob, plainOf, playOf, TakeInv, nextResponse}
 use Rattle.traffic.specs.Traffic.{met, polled, started, Start, boundsOf, siteOf, history, Promise, AtStart, EveryRun}
 use Rattle.traffic.proofs.SetupLaws.{Picture, picture}
 use Rattle.traffic.proofs.FirstRings.{first-ring}
@@ -123,6 +125,14 @@ held g r m i j hist h from R k f l =
     let e : (j + k) % slots (g .area) r ≡ (h + k) % slots (g .area) r = ap (λ (y : ℕ). (y + k) % slots (g .area) r) (R .taker) ∙ mod-add-mod h (slots (g .area) r) k in
     rw (e, getD-drop h hist k blank) (R .kept (h + k) f (omega (arith, l, length-drop h hist)))
 
+-- what the host has read of the oldest response, before it gives the slot back
+in-hand : (g : Site) (end : ℕ) (b : Bounds) (w : World) (y : Past) → Inv g end b w y → (c : Cursor) → w .host .taker ≡ Taking T.Give c
+    → (w .host .incoming ≡ padded (getD (plainOf w y .responses) 0 blank .text)) × (c .credits ≡ getD (plainOf w y .responses) 0 blank .credits)
+in-hand g end b w y I c e =
+    let P = subst (λ (t : Taker). TakeInv g (w .host) y t) e (I .take) .progress in
+    let q : getD (drop (y .taken) (y .posted)) 0 blank ≡ nextResponse y = getD-drop (y .taken) (y .posted) 0 blank ∙ ap (λ (k : ℕ). getD (y .posted) k blank) (omega arith) in
+    rw q (P .1 .0, P .1 .1 .1)
+
 -- a promise, from what holds of the whole run
 promised : (b : Beginning) (pool end : ℕ) (bs : Bounds) (St : Setting (siteOf b pool) end bs) → 1 ≤ bs .limit → (es : List Ev) (w : World) (x : Past) → Whole (siteOf b pool) end bs St es w x 0 0
     → Ran bs nothing (plainOf w x) → Promise (act addressBits) (siteOf b pool) bs es w (playOf w x)
@@ -144,7 +154,10 @@ promised b pool end bs St some es w x W r =
       responses-held =
           subst (λ (s : Play). (k : ℕ) → wholeFrom 0 (f .host .taker) ≤ k → k < length (s .plain .responses) → Letter (view g (f .memory)) Response ((f .host .counts .take + k) % slots (g .area) Response) (getD (s .plain .responses) k blank)) (sym q)
           (λ k v u. held g Response (f .memory) (f .port .counts .post) (f .host .counts .take) (y .posted) (y .taken) (wholeFrom (y .taken) (f .host .taker)) (W .inv .responses) k (omega (arith, whole-shift (y .taken) (f .host .taker))) u);
-      quiet = sa-zero (f .port) (g .area) (W .inv .go) (W .inv .port-runs);
+      response-in-hand =
+          subst (λ (s : Play). (c : Cursor) → f .host .taker ≡ Taking T.Give c → (f .host .incoming ≡ padded (getD (s .plain .responses) 0 blank .text)) × (c .credits ≡ getD (s .plain .responses) 0 blank .credits)) (sym q)
+          (in-hand g end bs f y (W .inv));
+      quiet = sa-zero (f .port) (g .area) (W .inv .agreed .go) (W .inv .agreed .port-runs);
       calm = W .calm;
     }
 
@@ -244,13 +257,16 @@ module _ (b : Beginning) (x : Pair) (ps : List Ev) (pool : ℕ) (St : Start b x 
   unfolding now first
   inv =
       record {
-        host-area = refl;
-        host-pool = refl;
-        host-runs = refl;
-        host-ready = refl;
-        go = goWord;
-        port-runs = polls .phase;
-        limit = ap (λ (y : Made). y .limit) (polls .made-is);
+        agreed =
+            record {
+              host-area = refl;
+              host-pool = refl;
+              host-runs = refl;
+              host-ready = refl;
+              go = goWord;
+              port-runs = polls .phase;
+              limit = ap (λ (y : Made). y .limit) (polls .made-is);
+            };
         size = shown .size;
         commands = subst (λ (k : ℕ). RingInv (siteOf b pool) (view (siteOf b pool) (setUp addressBits (areaOf b) pool before)) Command 0 k [] 0 0) (sym (ap (λ y. y .fetch) (polls .counts))) (ring Command);
         responses = subst (λ (k : ℕ). RingInv (siteOf b pool) (view (siteOf b pool) (setUp addressBits (areaOf b) pool before)) Response k 0 [] 0 0) (sym (ap (λ y. y .post) (polls .counts))) (ring Response);

@@ -108,10 +108,10 @@ module _ (g : Site) (end : ℕ) (b : Bounds) (S′ : Setting g end b) (h : Host)
   pub begin-send : (snd : Sender) (f : Bool) (t : List ℕ) → Bytes t → Inv g end b (world (HostState.withSender h snd) p m) x
       → Sim g end b (beginSend f t) (world (HostState.withSender h snd) p m) x (act (g .bits) (beginSend f t) (world (HostState.withSender h snd) p m))
   begin-send (Sending s c) f t y I =
-      sim-of g end b (beginSend f t) (world (HostState.withSender h (Sending s c)) p m) x (byHostOnly (world (HostState.withSender h (Sending s c)) p m)) (send-begun (Sending s c) f t (host-ready h (I .host-runs) (I .host-ready)))
+      sim-of g end b (beginSend f t) (world (HostState.withSender h (Sending s c)) p m) x (byHostOnly (world (HostState.withSender h (Sending s c)) p m)) (send-begun (Sending s c) f t (host-ready h (I .agreed .host-runs) (I .agreed .host-ready)))
       (still (beginSend f t) (world (HostState.withSender h (Sending s c)) p m) I _ refl refl refl (λ k j. refl) (λ k. refl) (λ k. refl))
   begin-send NoSend f t y I =
-      sim-of g end b (beginSend f t) w x (byHostOnly w) (send-begun NoSend f t (host-ready h (I .host-runs) (I .host-ready))) (by (leb (length t) 60) refl)
+      sim-of g end b (beginSend f t) w x (byHostOnly w) (send-begun NoSend f t (host-ready h (I .agreed .host-runs) (I .agreed .host-ready))) (by (leb (length t) 60) refl)
     where
       w : World
       w = world (HostState.withSender h NoSend) p m
@@ -131,13 +131,7 @@ module _ (g : Site) (end : ℕ) (b : Bounds) (S′ : Setting g end b) (h : Host)
             past = x′;
             inv =
                 record {
-                  host-area = I .host-area;
-                  host-pool = I .host-pool;
-                  host-runs = I .host-runs;
-                  host-ready = I .host-ready;
-                  go = I .go;
-                  port-runs = I .port-runs;
-                  limit = I .limit;
+                  agreed = I .agreed;
                   size = I .size;
                   commands = I .commands;
                   responses = I .responses;
@@ -164,22 +158,16 @@ module _ (g : Site) (end : ℕ) (b : Bounds) (S′ : Setting g end b) (h : Host)
   pub begin-take : (tk : Taker) → Inv g end b (world (HostState.withTaker h tk) p m) x
       → Sim g end b beginTake (world (HostState.withTaker h tk) p m) x (act (g .bits) beginTake (world (HostState.withTaker h tk) p m))
   begin-take (Taking s c) I =
-      sim-of g end b beginTake (world (HostState.withTaker h (Taking s c)) p m) x (byHostOnly (world (HostState.withTaker h (Taking s c)) p m)) (take-begun (Taking s c) (host-ready h (I .host-runs) (I .host-ready)))
+      sim-of g end b beginTake (world (HostState.withTaker h (Taking s c)) p m) x (byHostOnly (world (HostState.withTaker h (Taking s c)) p m)) (take-begun (Taking s c) (host-ready h (I .agreed .host-runs) (I .agreed .host-ready)))
       (still beginTake (world (HostState.withTaker h (Taking s c)) p m) I _ refl refl refl (λ k j. refl) (λ k. refl) (λ k. refl))
   begin-take NoTake I =
-      sim-of g end b beginTake (world (HostState.withTaker h NoTake) p m) x (byHostOnly (world (HostState.withTaker h NoTake) p m)) (take-begun NoTake (host-ready h (I .host-runs) (I .host-ready)))
+      sim-of g end b beginTake (world (HostState.withTaker h NoTake) p m) x (byHostOnly (world (HostState.withTaker h NoTake) p m)) (take-begun NoTake (host-ready h (I .agreed .host-runs) (I .agreed .host-ready)))
       record {
         moment = later;
         past = x;
         inv =
             record {
-              host-area = I .host-area;
-              host-pool = I .host-pool;
-              host-runs = I .host-runs;
-              host-ready = I .host-ready;
-              go = I .go;
-              port-runs = I .port-runs;
-              limit = I .limit;
+              agreed = I .agreed;
               size = I .size;
               commands = I .commands;
               responses = I .responses;
@@ -207,25 +195,19 @@ module _ (g : Site) (end : ℕ) (b : Bounds) (S′ : Setting g end b) (h : Host)
   pub begin-fetch : (f : Fetcher) → Inv g end b (world h (PortState.withFetcher p f) m) x
       → Sim g end b beginFetch (world h (PortState.withFetcher p f) m) x (act (g .bits) beginFetch (world h (PortState.withFetcher p f) m))
   begin-fetch (Fetching s c) I =
-      sim-of g end b beginFetch (world h (PortState.withFetcher p (Fetching s c)) m) x (byPortOnly (world h (PortState.withFetcher p (Fetching s c)) m)) (fetch-begun (Fetching s c) (g .area) (I .go) (I .port-runs))
+      sim-of g end b beginFetch (world h (PortState.withFetcher p (Fetching s c)) m) x (byPortOnly (world h (PortState.withFetcher p (Fetching s c)) m)) (fetch-begun (Fetching s c) (g .area) (I .agreed .go) (I .agreed .port-runs))
       (still beginFetch (world h (PortState.withFetcher p (Fetching s c)) m) I _ refl refl refl (λ k j. refl) (λ k. refl) (λ k. refl))
   begin-fetch (FetchTail s c) I =
-      sim-of g end b beginFetch (world h (PortState.withFetcher p (FetchTail s c)) m) x (byPortOnly (world h (PortState.withFetcher p (FetchTail s c)) m)) (fetch-begun (FetchTail s c) (g .area) (I .go) (I .port-runs))
+      sim-of g end b beginFetch (world h (PortState.withFetcher p (FetchTail s c)) m) x (byPortOnly (world h (PortState.withFetcher p (FetchTail s c)) m)) (fetch-begun (FetchTail s c) (g .area) (I .agreed .go) (I .agreed .port-runs))
       (still beginFetch (world h (PortState.withFetcher p (FetchTail s c)) m) I _ refl refl refl (λ k j. refl) (λ k. refl) (λ k. refl))
   begin-fetch NoFetch I =
-      sim-of g end b beginFetch (world h (PortState.withFetcher p NoFetch) m) x (byPortOnly (world h (PortState.withFetcher p NoFetch) m)) (fetch-begun NoFetch (g .area) (I .go) (I .port-runs))
+      sim-of g end b beginFetch (world h (PortState.withFetcher p NoFetch) m) x (byPortOnly (world h (PortState.withFetcher p NoFetch) m)) (fetch-begun NoFetch (g .area) (I .agreed .go) (I .agreed .port-runs))
       record {
         moment = later;
         past = x;
         inv =
             record {
-              host-area = I .host-area;
-              host-pool = I .host-pool;
-              host-runs = I .host-runs;
-              host-ready = I .host-ready;
-              go = I .go;
-              port-runs = I .port-runs;
-              limit = I .limit;
+              agreed = I .agreed;
               size = I .size;
               commands = I .commands;
               responses = I .responses;
@@ -253,13 +235,13 @@ module _ (g : Site) (end : ℕ) (b : Bounds) (S′ : Setting g end b) (h : Host)
   pub begin-post : (q : Poster) (a : Bool) (t : List ℕ) → Bytes t → Inv g end b (world h (PortState.withPoster p q) m) x
       → Sim g end b (beginPost a t) (world h (PortState.withPoster p q) m) x (act (g .bits) (beginPost a t) (world h (PortState.withPoster p q) m))
   begin-post (Posting s c) a t y I =
-      sim-of g end b (beginPost a t) (world h (PortState.withPoster p (Posting s c)) m) x (byPortOnly (world h (PortState.withPoster p (Posting s c)) m)) (post-begun (Posting s c) a t (g .area) (I .go) (I .port-runs))
+      sim-of g end b (beginPost a t) (world h (PortState.withPoster p (Posting s c)) m) x (byPortOnly (world h (PortState.withPoster p (Posting s c)) m)) (post-begun (Posting s c) a t (g .area) (I .agreed .go) (I .agreed .port-runs))
       (still (beginPost a t) (world h (PortState.withPoster p (Posting s c)) m) I _ refl refl refl (λ k j. refl) (λ k. refl) (λ k. refl))
   begin-post (PostTail s c) a t y I =
-      sim-of g end b (beginPost a t) (world h (PortState.withPoster p (PostTail s c)) m) x (byPortOnly (world h (PortState.withPoster p (PostTail s c)) m)) (post-begun (PostTail s c) a t (g .area) (I .go) (I .port-runs))
+      sim-of g end b (beginPost a t) (world h (PortState.withPoster p (PostTail s c)) m) x (byPortOnly (world h (PortState.withPoster p (PostTail s c)) m)) (post-begun (PostTail s c) a t (g .area) (I .agreed .go) (I .agreed .port-runs))
       (still (beginPost a t) (world h (PortState.withPoster p (PostTail s c)) m) I _ refl refl refl (λ k j. refl) (λ k. refl) (λ k. refl))
   begin-post NoPost a t y I =
-      sim-of g end b (beginPost a t) w x (byPortOnly w) (post-begun NoPost a t (g .area) (I .go) (I .port-runs)) (by (leb (length t) 60) refl (a && eqb (p .counts .unanswered) 0) refl)
+      sim-of g end b (beginPost a t) w x (byPortOnly w) (post-begun NoPost a t (g .area) (I .agreed .go) (I .agreed .port-runs)) (by (leb (length t) 60) refl (a && eqb (p .counts .unanswered) 0) refl)
     where
       w : World
       w = world h (PortState.withPoster p NoPost) m
@@ -284,13 +266,7 @@ module _ (g : Site) (end : ℕ) (b : Bounds) (S′ : Setting g end b) (h : Host)
             past = x′;
             inv =
                 record {
-                  host-area = I .host-area;
-                  host-pool = I .host-pool;
-                  host-runs = I .host-runs;
-                  host-ready = I .host-ready;
-                  go = I .go;
-                  port-runs = I .port-runs;
-                  limit = I .limit;
+                  agreed = I .agreed;
                   size = I .size;
                   commands = I .commands;
                   responses = I .responses;
@@ -318,7 +294,7 @@ module _ (g : Site) (end : ℕ) (b : Bounds) (S′ : Setting g end b) (h : Host)
   pub clear : (r : Ring) → Inv g end b (world h p m) x → Sim g end b (clearMark r) (world h p m) x (act (g .bits) (clearMark r) (world h p m))
   clear r I =
       let m′ : Memory = withWord (g .bits) m (addr g (markWord r)) 0 in
-      sim-of g end b (clearMark r) (world h p m) x (byHost (world h p m)) (clear-is r (I .host-runs) (I .host-area) (writes g end F m (I .size) (markWord r) 0 tt))
+      sim-of g end b (clearMark r) (world h p m) x (byHost (world h p m)) (clear-is r (I .agreed .host-runs) (I .agreed .host-area) (writes g end F m (I .size) (markWord r) 0 tt))
       record {
         moment = later;
         past = x;
@@ -349,15 +325,15 @@ module _ (g : Site) (end : ℕ) (b : Bounds) (S′ : Setting g end b) (h : Host)
 
   pub read : Inv g end b (world h p m) x → Sim g end b readSa (world h p m) x (act (g .bits) readSa (world h p m))
   read I =
-      sim-of g end b readSa (world h p m) x (λ (v : ℕ). Rattle.traffic.specs.World.did (Rattle.traffic.specs.World.word v) (world h p m)) (sa-zero (g .area) (I .go) (I .port-runs))
+      sim-of g end b readSa (world h p m) x (λ (v : ℕ). Rattle.traffic.specs.World.did (Rattle.traffic.specs.World.word v) (world h p m)) (sa-zero (g .area) (I .agreed .go) (I .agreed .port-runs))
       (still readSa (world h p m) I _ refl refl refl (λ k j. refl) (λ k. refl) (λ k. refl))
 
   pub write : (v : ℕ) → Inv g end b (world h p m) x → Sim g end b (writeSa v) (world h p m) x (act (g .bits) (writeSa v) (world h p m))
   write v I =
-      sim-of g end b (writeSa v) (world h p m) x (byPort (world h p m)) (sa-ignored (g .area) (I .go) v (I .port-runs)) (still (writeSa v) (world h p m) I _ refl refl refl (λ k j. refl) (λ k. refl) (λ k. refl))
+      sim-of g end b (writeSa v) (world h p m) x (byPort (world h p m)) (sa-ignored (g .area) (I .agreed .go) v (I .agreed .port-runs)) (still (writeSa v) (world h p m) I _ refl refl refl (λ k j. refl) (λ k. refl) (λ k. refl))
 
   pub show : (v : ℕ) → Inv g end b (world h p m) x → Sim g end b (showSa v) (world h p m) x (act (g .bits) (showSa v) (world h p m))
-  show v I = sim-of g end b (showSa v) (world h p m) x (byTurn (world h p m)) (shown-is v (I .host-runs)) (still (showSa v) (world h p m) I _ refl refl refl (λ k j. refl) (λ k. refl) (λ k. refl))
+  show v I = sim-of g end b (showSa v) (world h p m) x (byTurn (world h p m)) (shown-is v (I .agreed .host-runs)) (still (showSa v) (world h p m) I _ refl refl refl (λ k j. refl) (λ k. refl) (λ k. refl))
 
   pub late : Inv g end b (world h p m) x → Sim g end b timeIsUp (world h p m) x (act (g .bits) timeIsUp (world h p m))
-  late I = sim-of g end b timeIsUp (world h p m) x (byTurn (world h p m)) (late-is (I .host-runs)) (still timeIsUp (world h p m) I _ refl refl refl (λ k j. refl) (λ k. refl) (λ k. refl))
+  late I = sim-of g end b timeIsUp (world h p m) x (byTurn (world h p m)) (late-is (I .agreed .host-runs)) (still timeIsUp (world h p m) I _ refl refl refl (λ k j. refl) (λ k. refl) (λ k. refl))

@@ -136,13 +136,7 @@ module _ (g : Site) (end : ℕ) (b : Bounds) (S′ : Setting g end b) (h : Host)
     with-fetch : (room : List ℕ) (f′ : Fetcher) → FetchInv g (withFetcher (withIncoming p room) f′) x f′ → Inv g end b (world h (withFetcher (withIncoming p room) f′) m) x
     with-fetch room f′ new =
         record {
-          host-area = I .host-area;
-          host-pool = I .host-pool;
-          host-runs = I .host-runs;
-          host-ready = I .host-ready;
-          go = I .go;
-          port-runs = I .port-runs;
-          limit = I .limit;
+          agreed = I .agreed;
           size = I .size;
           commands = I .commands;
           responses = I .responses;
@@ -155,7 +149,7 @@ module _ (g : Site) (end : ℕ) (b : Bounds) (S′ : Setting g end b) (h : Host)
 
   no-fetch : Inv g end b (world h (withFetcher p NoFetch) m) x → Sim g end b stepFetch (world h (withFetcher p NoFetch) m) x (byPort (world h (withFetcher p NoFetch) m) (fetchStep (g .bits) (withFetcher p NoFetch) m))
   no-fetch I =
-      sim-of g end b stepFetch (world h (withFetcher p NoFetch) m) x (byPort (world h (withFetcher p NoFetch) m)) (fetch-idle (g .bits) p (g .area) (I .go) m (I .port-runs))
+      sim-of g end b stepFetch (world h (withFetcher p NoFetch) m) x (byPort (world h (withFetcher p NoFetch) m)) (fetch-idle (g .bits) p (g .area) (I .agreed .go) m (I .agreed .port-runs))
       record { moment = now; past = x; inv = I; same = refl; ran = λ l r. r; calm = refl; timed = λ k j u v. refl; fetch-counted = λ k u. u; post-counted = λ k u. u }
 
   high : (c : Cursor) → Inv g end b (world h (withFetcher p (Fetching S.High c)) m) x
@@ -170,7 +164,7 @@ module _ (g : Site) (end : ℕ) (b : Bounds) (S′ : Setting g end b) (h : Host)
 
       step : fetchStep (g .bits) (withFetcher p (Fetching S.High c)) m ≡ with-memory (fetchHigh (withFetcher p (Fetching S.High c)) c word) m
       step =
-          fetch-at (g .bits) p (g .area) (I .go) m S.High c (Read (addr g (slotWord Command (p .counts .fetch) 2))) word (I .port-runs)
+          fetch-at (g .bits) p (g .area) (I .agreed .go) m S.High c (Read (addr g (slotWord Command (p .counts .fetch) 2))) word (I .agreed .port-runs)
           (touch-high c (I .fetch .slot)) (reads g end F m (I .size) (slotWord Command (p .counts .fetch) 2) (here (Fetching S.High c) I, omega arith))
 
       by : (o : Bool) → isSet owner word ≡ o → Sim g end b stepFetch w x (byPort w (fetchStep (g .bits) (withFetcher p (Fetching S.High c)) m))
@@ -225,7 +219,7 @@ module _ (g : Site) (end : ℕ) (b : Bounds) (S′ : Setting g end b) (h : Host)
       ap (λ (k : ℕ). addressOf (g .bits) k (c .high)) (I .commands .lows i at)
       ∙ address-is (g .bits) (e + 4) (c .high) (omega (arith, F .envelope-even Command i)) (rw (← I .fetch .slot) (I .fetch .progress .0 .upper)) in
       sim-of g end b stepFetch (world h (withFetcher p (Fetching S.Low c)) m) x (byPort (world h (withFetcher p (Fetching S.Low c)) m))
-      (fetch-at (g .bits) p (g .area) (I .go) m S.Low c (Read (addr g (slotWord Command i 0))) v (I .port-runs)
+      (fetch-at (g .bits) p (g .area) (I .agreed .go) m S.Low c (Read (addr g (slotWord Command i 0))) v (I .agreed .port-runs)
       (touch-low c (I .fetch .slot)) (reads g end F m (I .size) (slotWord Command i 0) (at, omega arith))
       ∙ low-on (g .bits) p m (usable (g .bits) (length m)) (e + 4) e c v q (omega arith) (omega (arith, F .envelope-inside Command i at, I .size)) (omega arith))
       record {
@@ -248,7 +242,7 @@ module _ (g : Site) (end : ℕ) (b : Bounds) (S′ : Setting g end b) (h : Host)
       let v : ℕ = view g m (envWord Command (p .counts .fetch) 0) in
       let L = fetching (Fetching S.Length c) I (P .0 .some) in
       sim-of g end b stepFetch (world h (withFetcher p (Fetching S.Length c)) m) x (byPort (world h (withFetcher p (Fetching S.Length c)) m))
-      (fetch-at (g .bits) p (g .area) (I .go) m S.Length c (Read (addr g (envWord Command (p .counts .fetch) 0))) v (I .port-runs)
+      (fetch-at (g .bits) p (g .area) (I .agreed .go) m S.Length c (Read (addr g (envWord Command (p .counts .fetch) 0))) v (I .agreed .port-runs)
       (touch-len c (I .fetch .slot) (P .1 .1)) (reads g end F m (I .size) (envWord Command (p .counts .fetch) 0) (here (Fetching S.Length c) I, omega arith)))
       record {
         moment = later;
@@ -307,7 +301,7 @@ module _ (g : Site) (end : ℕ) (b : Bounds) (S′ : Setting g end b) (h : Host)
 
   -- a command in the ring means a credit out
   credit : (f : Fetcher) (I : Inv g end b (world h (withFetcher p f) m) x) → x .fetched < length (x .sent) → p .counts .owed + p .counts .unanswered < p .made .limit
-  credit f I some = omega (arith, I .sum, I .limit, ap (λ (y : List Entry). length y) (left-some (x .sent) (x .fetched) some))
+  credit f I some = omega (arith, I .sum, I .agreed .limit, ap (λ (y : List Entry). length y) (left-some (x .sent) (x .fetched) some))
 
   head : (c : Cursor) → Inv g end b (world h (withFetcher p (Fetching S.Header c)) m) x
       → Sim g end b stepFetch (world h (withFetcher p (Fetching S.Header c)) m) x (byPort (world h (withFetcher p (Fetching S.Header c)) m) (fetchStep (g .bits) (withFetcher p (Fetching S.Header c)) m))
@@ -319,7 +313,7 @@ module _ (g : Site) (end : ℕ) (b : Bounds) (S′ : Setting g end b) (h : Host)
       let L = fetching (Fetching S.Header c) I (P .0 .some) in
       let si : c .size ≡ length (nextCommand x .text) = P .1 .1 .1 in
       on-sim S.Header c (p .incoming) 0 I (P .0) (rw (P .1 .0) (got-none (nextCommand x .text))) (P .1 .1 .0) si (L .short) (omega arith) (omega arith)
-      (fetch-at (g .bits) p (g .area) (I .go) m S.Header c (Read (addr g (envWord Command i 2))) v (I .port-runs)
+      (fetch-at (g .bits) p (g .area) (I .agreed .go) m S.Header c (Read (addr g (envWord Command i 2))) v (I .agreed .port-runs)
       (touch-head c (I .fetch .slot) (P .1 .1 .0)) (reads g end F m (I .size) (envWord Command i 2) (at, omega arith))
       ∙ header-on p m (usable (g .bits) (length m)) c v
       (sound (of messageType v) (of connection v) (c .size) (ap (of messageType) (L .head) ∙ header-type (nextCommand x .credits)) (ap (of connection) (L .head) ∙ header-connection (nextCommand x .credits)) (rw si (L .short)))
@@ -340,7 +334,7 @@ module _ (g : Site) (end : ℕ) (b : Bounds) (S′ : Setting g end b) (h : Host)
       let t : List ℕ = nextCommand x .text in
       on-sim S.Text c (withText (p .incoming) (c .size) (c .at) v) (c .at + 1) I (P .0)
       (rw (P .1 .1 .1 .0, L .words (c .at) few) (got-more (p .incoming) t (c .at) (L .bytes) (L .short) (P .1 .0) few)) (P .1 .1 .0) (P .1 .1 .1 .0) (L .short) (omega (arith, few)) (omega arith)
-      (fetch-at (g .bits) p (g .area) (I .go) m S.Text c (Read (addr g (envWord Command (p .counts .fetch) (4 + 2 * c .at)))) v (I .port-runs)
+      (fetch-at (g .bits) p (g .area) (I .agreed .go) m S.Text c (Read (addr g (envWord Command (p .counts .fetch) (4 + 2 * c .at)))) v (I .agreed .port-runs)
       (touch-text c (I .fetch .slot) (P .1 .1 .0))
       (reads g end F m (I .size) (envWord Command (p .counts .fetch) (4 + 2 * c .at)) (here (Fetching S.Text c) I, omega (arith, few, L .short)))
       ∙ text-is c v (usable (g .bits) (length m)))
@@ -404,7 +398,7 @@ module _ (g : Site) (end : ℕ) (b : Bounds) (S′ : Setting g end b) (h : Host)
     step : fetchStep (g .bits) (withFetcher p (Fetching S.Release c)) m ≡ with-memory (fetchRelease (withFetcher p (Fetching S.Release c)) (g .area) c) after
     unfolding after
     step =
-        fetch-at (g .bits) p (g .area) (I .go) m S.Release c (Write (addr g (slotWord Command (p .counts .fetch) 2)) (highWord false true (c .high))) (highWord false true (c .high)) (I .port-runs)
+        fetch-at (g .bits) p (g .area) (I .agreed .go) m S.Release c (Write (addr g (slotWord Command (p .counts .fetch) 2)) (highWord false true (c .high))) (highWord false true (c .high)) (I .agreed .port-runs)
         (touch-release c (I .fetch .slot)) (writes g end F m (I .size) (slotWord Command (p .counts .fetch) 2) (highWord false true (c .high)) (at, omega arith))
 
     lows : (s : ℕ) → s < slots (g .area) Command → view g after (slotWord Command s 0) ≡ view g m (slotWord Command s 0)
@@ -421,13 +415,7 @@ module _ (g : Site) (end : ℕ) (b : Bounds) (S′ : Setting g end b) (h : Host)
         let i : ℕ = p .counts .fetch in
         let v : ℕ = highWord false true (c .high) in
         record {
-          host-area = I .host-area;
-          host-pool = I .host-pool;
-          host-runs = I .host-runs;
-          host-ready = I .host-ready;
-          go = I .go;
-          port-runs = I .port-runs;
-          limit = I .limit;
+          agreed = I .agreed;
           size = size-kept g end m (addr g (slotWord Command i 2)) v (I .size);
           commands =
               release g Command (view g m) (view g (withWord (g .bits) m (addr g (slotWord Command i 2)) v)) (h .counts .send) i (x .sent) (x .fetched) (x .fetched) (I .commands) v i
@@ -521,7 +509,7 @@ module _ (g : Site) (end : ℕ) (b : Bounds) (S′ : Setting g end b) (h : Host)
 
       step : fetchStep (g .bits) (withFetcher p (FetchTail E.Test c)) m ≡ with-memory (fetchTailed (withFetcher p (FetchTail E.Test c)) c (tailAfter (g .area) E.Test (Value word))) m
       step =
-          tail-at (g .bits) p (g .area) (I .go) m E.Test c (Read (addr g (slotWord Command (beforeOf (g .area) Command (c .slot)) 2))) word (I .port-runs)
+          tail-at (g .bits) p (g .area) (I .agreed .go) m E.Test c (Read (addr g (slotWord Command (beforeOf (g .area) Command (c .slot)) 2))) word (I .agreed .port-runs)
           (touch-test c) (reads g end F m (I .size) (slotWord Command (beforeOf (g .area) Command (c .slot)) 2) (every-layout .ring (g .area) Command .before-in (c .slot) (I .fetch .slot), omega arith))
 
       by : (o : Bool) → isSet owner word ≡ o → Sim g end b stepFetch w x (byPort w (fetchStep (g .bits) (withFetcher p (FetchTail E.Test c)) m))
@@ -558,7 +546,7 @@ module _ (g : Site) (end : ℕ) (b : Bounds) (S′ : Setting g end b) (h : Host)
       let w : World = world h (withFetcher p (FetchTail E.Mark c)) m in
       let m′ : Memory = withWord (g .bits) m (addr g (markWord Command)) 1 in
       sim-of g end b stepFetch w x (byPort w)
-      (tail-at (g .bits) p (g .area) (I .go) m E.Mark c (Write (addr g (markWord Command)) 1) 1 (I .port-runs) (touch-mark c) (writes g end F m (I .size) (markWord Command) 1 tt)
+      (tail-at (g .bits) p (g .area) (I .agreed .go) m E.Mark c (Write (addr g (markWord Command)) 1) 1 (I .agreed .port-runs) (touch-mark c) (writes g end F m (I .size) (markWord Command) 1 tt)
       ∙ mark-closes c m′ 1)
       record {
         moment = now;

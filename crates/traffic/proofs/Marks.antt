@@ -34,13 +34,7 @@ module _ (g : Site) (end : ℕ) (b : Bounds) (S : Setting g end b) (h : Host) (p
       → Inv g end b (world h (withPoster (withFetcher p f′) q′) marked-memory) x
   marked f′ q′ fetch post =
       record {
-        host-area = I .host-area;
-        host-pool = I .host-pool;
-        host-runs = I .host-runs;
-        host-ready = I .host-ready;
-        go = I .go;
-        port-runs = I .port-runs;
-        limit = I .limit;
+        agreed = I .agreed;
         size = size-kept g end m (addr g (markWord r)) v (I .size);
         commands = quiet-mark g end (S .facts) m (I .size) Command (h .counts .send) (p .counts .fetch) (x .sent) (x .fetched) (x .fetched) (I .commands) r v;
         responses = quiet-mark g end (S .facts) m (I .size) Response (p .counts .post) (h .counts .take) (x .posted) (x .taken) _ (I .responses) r v;

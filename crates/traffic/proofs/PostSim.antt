@@ -149,13 +149,7 @@ module _ (g : Site) (end : ℕ) (b : Bounds) (S′ : Setting g end b) (h : Host)
     with-post : (q′ : Poster) → PostInv g (view g m) (withPoster p q′) x q′ → Inv g end b (world h (withPoster p q′) m) x
     with-post q′ new =
         record {
-          host-area = I .host-area;
-          host-pool = I .host-pool;
-          host-runs = I .host-runs;
-          host-ready = I .host-ready;
-          go = I .go;
-          port-runs = I .port-runs;
-          limit = I .limit;
+          agreed = I .agreed;
           size = I .size;
           commands = I .commands;
           responses = I .responses;
@@ -171,13 +165,7 @@ module _ (g : Site) (end : ℕ) (b : Bounds) (S′ : Setting g end b) (h : Host)
         → Inv g end b (world h (withPoster p q′) (withWord (g .bits) m (addr g (envWord Response (p .counts .post) o)) v)) x
     with-env q′ o v l room new =
         record {
-          host-area = I .host-area;
-          host-pool = I .host-pool;
-          host-runs = I .host-runs;
-          host-ready = I .host-ready;
-          go = I .go;
-          port-runs = I .port-runs;
-          limit = I .limit;
+          agreed = I .agreed;
           size = size-kept g end m (addr g (envWord Response (p .counts .post) o)) v (I .size);
           commands = quiet-env g end F m (I .size) Command (h .counts .send) (p .counts .fetch) (x .sent) (x .fetched) (x .fetched) (I .commands) Response (p .counts .post) o v (λ s. rings′) (here, l);
           responses = quiet-giver g end F m (I .size) Response (p .counts .post) (h .counts .take) (x .posted) (x .taken) _ (I .responses) o v room l;
@@ -192,7 +180,7 @@ module _ (g : Site) (end : ℕ) (b : Bounds) (S′ : Setting g end b) (h : Host)
 
   no-post : Inv g end b (world h (withPoster p NoPost) m) x → Sim g end b stepPost (world h (withPoster p NoPost) m) x (byPort (world h (withPoster p NoPost) m) (postStep (g .bits) (withPoster p NoPost) m))
   no-post I =
-      sim-of g end b stepPost (world h (withPoster p NoPost) m) x (byPort (world h (withPoster p NoPost) m)) (post-idle (g .bits) p (g .area) (I .go) m (I .port-runs))
+      sim-of g end b stepPost (world h (withPoster p NoPost) m) x (byPort (world h (withPoster p NoPost) m)) (post-idle (g .bits) p (g .area) (I .agreed .go) m (I .agreed .port-runs))
       record { moment = now; past = x; inv = I; same = refl; ran = λ l r. r; calm = refl; timed = λ k j u v. refl; fetch-counted = λ k u. u; post-counted = λ k u. u }
 
   -- an answer that is asked for has an open command
@@ -215,7 +203,7 @@ module _ (g : Site) (end : ℕ) (b : Bounds) (S′ : Setting g end b) (h : Host)
 
       step : postStep (g .bits) (withPoster p (Posting S.High c)) m ≡ with-memory (postHigh (withPoster p (Posting S.High c)) c word) m
       step =
-          post-at (g .bits) p (g .area) (I .go) m S.High c (Read (addr g (slotWord Response (p .counts .post) 2))) word (I .port-runs)
+          post-at (g .bits) p (g .area) (I .agreed .go) m S.High c (Read (addr g (slotWord Response (p .counts .post) 2))) word (I .agreed .port-runs)
           (touch-high c (I .post .slot)) (reads g end F m (I .size) (slotWord Response (p .counts .post) 2) (here (Posting S.High c) I, omega arith))
 
       by : (o : Bool) → isSet owner word ≡ o → Sim g end b stepPost w x (byPort w (postStep (g .bits) (withPoster p (Posting S.High c)) m))
@@ -271,7 +259,7 @@ module _ (g : Site) (end : ℕ) (b : Bounds) (S′ : Setting g end b) (h : Host)
       ap (λ (y : ℕ). addressOf (g .bits) y (c .high)) (I .responses .lows i at)
       ∙ address-is (g .bits) (e + 4) (c .high) (omega (arith, F .envelope-even Response i)) (rw (← I .post .slot) (I .post .progress .1)) in
       sim-of g end b stepPost (world h (withPoster p (Posting S.Low c)) m) x (byPort (world h (withPoster p (Posting S.Low c)) m))
-      (post-at (g .bits) p (g .area) (I .go) m S.Low c (Read (addr g (slotWord Response i 0))) v (I .port-runs)
+      (post-at (g .bits) p (g .area) (I .agreed .go) m S.Low c (Read (addr g (slotWord Response i 0))) v (I .agreed .port-runs)
       (touch-low c (I .post .slot)) (reads g end F m (I .size) (slotWord Response i 0) (at, omega arith))
       ∙ low-on (g .bits) p m (usable (g .bits) (length m)) (e + 4) e c v k (omega arith) (rw (I .post .size) (omega (arith, F .envelope-inside Response i at, I .size, I .post .short))) (omega arith))
       record {
@@ -302,7 +290,7 @@ module _ (g : Site) (end : ℕ) (b : Bounds) (S′ : Setting g end b) (h : Host)
       let i : ℕ = p .counts .post in
       let at : i < slots (g .area) Response = here (Posting S.Length c) I in
       sim-of g end b stepPost (world h (withPoster p (Posting S.Length c)) m) x (byPort (world h (withPoster p (Posting S.Length c)) m))
-      (post-at (g .bits) p (g .area) (I .go) m S.Length c (Write (addr g (envWord Response i 0)) (c .size)) (c .size) (I .port-runs)
+      (post-at (g .bits) p (g .area) (I .agreed .go) m S.Length c (Write (addr g (envWord Response i 0)) (c .size)) (c .size) (I .agreed .port-runs)
       (touch-len c (I .post .slot) (P .1 .1)) (writes g end F m (I .size) (envWord Response i 0) (c .size) (at, omega arith)))
       record {
         moment = later;
@@ -403,7 +391,7 @@ module _ (g : Site) (end : ℕ) (b : Bounds) (S′ : Setting g end b) (h : Host)
       let v : ℕ = headerWord (carries c) in
       on-sim S.Header c 0 2 v (omega arith) I (P .0) (P .1 .0) (P .1 .1 .0) (omega arith) (omega arith)
       (put-head g end F m (I .size) Response i at (x .posting) (I .post .short) (carries c) v refl (rw (← I .post .slot) (P .1 .1 .1)))
-      (post-at (g .bits) p (g .area) (I .go) m S.Header c (Write (addr g (envWord Response i 2)) v) v (I .port-runs)
+      (post-at (g .bits) p (g .area) (I .agreed .go) m S.Header c (Write (addr g (envWord Response i 2)) v) v (I .agreed .port-runs)
       (touch-head c (I .post .slot) (P .1 .1 .0)) (writes g end F m (I .size) (envWord Response i 2) v (at, omega arith)))
 
   text : (c : Cursor) → Inv g end b (world h (withPoster p (Posting S.Text c)) m) x
@@ -418,7 +406,7 @@ module _ (g : Site) (end : ℕ) (b : Bounds) (S′ : Setting g end b) (h : Host)
       (put-word g end F m (I .size) Response i at (x .posting) (I .post .short) (carries c) (c .at) v (I .post .bytes) few
       (ap (λ (y : List ℕ). wordOf y (c .size) (c .at)) (I .post .text) ∙ ap (λ (y : ℕ). wordOf (padded (x .posting)) y (c .at)) (I .post .size))
       (rw (← I .post .slot) (subst (λ (y : ℕ). Written (view g m) Response (c .slot) (x .posting) y (c .at)) (credits-are (withPoster p (Posting S.Text c)) c) (P .1 .1 .1 .0))))
-      (post-at (g .bits) p (g .area) (I .go) m S.Text c (Write (addr g (envWord Response i (4 + 2 * c .at))) v) v (I .port-runs)
+      (post-at (g .bits) p (g .area) (I .agreed .go) m S.Text c (Write (addr g (envWord Response i (4 + 2 * c .at))) v) v (I .agreed .port-runs)
       (touch-text c (I .post .slot) (P .1 .1 .0)) (writes g end F m (I .size) (envWord Response i (4 + 2 * c .at)) v (at, omega (arith, few, I .post .short))))
 
   -- the high word: the response is given; an answer closes a command and grants what it carries
@@ -476,7 +464,7 @@ module _ (g : Site) (end : ℕ) (b : Bounds) (S′ : Setting g end b) (h : Host)
     step : postStep (g .bits) (withPoster p (Posting S.Release c)) m ≡ with-memory (postRelease (withPoster p (Posting S.Release c)) (g .area) c) after
     unfolding after
     step =
-        post-at (g .bits) p (g .area) (I .go) m S.Release c (Write (addr g (slotWord Response (p .counts .post) 2)) (highWord false true (c .high))) (highWord false true (c .high)) (I .port-runs)
+        post-at (g .bits) p (g .area) (I .agreed .go) m S.Release c (Write (addr g (slotWord Response (p .counts .post) 2)) (highWord false true (c .high))) (highWord false true (c .high)) (I .agreed .port-runs)
         (touch-release c (I .post .slot)) (writes g end F m (I .size) (slotWord Response (p .counts .post) 2) (highWord false true (c .high)) (at, omega arith))
 
     lows : (s : ℕ) → s < slots (g .area) Response → view g after (slotWord Response s 0) ≡ view g m (slotWord Response s 0)
@@ -504,13 +492,7 @@ module _ (g : Site) (end : ℕ) (b : Bounds) (S′ : Setting g end b) (h : Host)
         let i : ℕ = p .counts .post in
         let v : ℕ = highWord false true (c .high) in
         record {
-          host-area = I .host-area;
-          host-pool = I .host-pool;
-          host-runs = I .host-runs;
-          host-ready = I .host-ready;
-          go = I .go;
-          port-runs = I .port-runs;
-          limit = I .limit;
+          agreed = I .agreed;
           size = size-kept g end m (addr g (slotWord Response i 2)) v (I .size);
           commands = quiet-slot g end F m (I .size) Command (h .counts .send) (p .counts .fetch) (x .sent) (x .fetched) (x .fetched) (I .commands) Response i 2 v (λ s. rings′) (at, omega arith);
           responses =
@@ -614,7 +596,7 @@ module _ (g : Site) (end : ℕ) (b : Bounds) (S′ : Setting g end b) (h : Host)
 
       step : postStep (g .bits) (withPoster p (PostTail E.Test c)) m ≡ with-memory (postTailed (withPoster p (PostTail E.Test c)) c (tailAfter (g .area) E.Test (Value word))) m
       step =
-          tail-at (g .bits) p (g .area) (I .go) m E.Test c (Read (addr g (slotWord Response (beforeOf (g .area) Response (c .slot)) 2))) word (I .port-runs)
+          tail-at (g .bits) p (g .area) (I .agreed .go) m E.Test c (Read (addr g (slotWord Response (beforeOf (g .area) Response (c .slot)) 2))) word (I .agreed .port-runs)
           (touch-test c) (reads g end F m (I .size) (slotWord Response (beforeOf (g .area) Response (c .slot)) 2) (every-layout .ring (g .area) Response .before-in (c .slot) (I .post), omega arith))
 
       by : (o : Bool) → isSet owner word ≡ o → Sim g end b stepPost w x (byPort w (postStep (g .bits) (withPoster p (PostTail E.Test c)) m))
@@ -631,7 +613,7 @@ module _ (g : Site) (end : ℕ) (b : Bounds) (S′ : Setting g end b) (h : Host)
       let w : World = world h (withPoster p (PostTail E.Mark c)) m in
       let m′ : Memory = withWord (g .bits) m (addr g (markWord Response)) 1 in
       sim-of g end b stepPost w x (byPort w)
-      (tail-at (g .bits) p (g .area) (I .go) m E.Mark c (Write (addr g (markWord Response)) 1) 1 (I .port-runs) (touch-mark c) (writes g end F m (I .size) (markWord Response) 1 tt)
+      (tail-at (g .bits) p (g .area) (I .agreed .go) m E.Mark c (Write (addr g (markWord Response)) 1) 1 (I .agreed .port-runs) (touch-mark c) (writes g end F m (I .size) (markWord Response) 1 tt)
       ∙ mark-closes c m′ 1)
       record {
         moment = now;

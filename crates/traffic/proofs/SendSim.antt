@@ -123,7 +123,7 @@ module _ (g : Site) (end : ℕ) (b : Bounds) (S : Setting g end b) (h : Host) (p
   module _ (snd : Sender) (I : Inv g end b (world (withSender h snd) p m) x) where
     ready : isReady h ≡ true
     unfolding isReady
-    ready = rw (I .host-runs, I .host-ready)
+    ready = rw (I .agreed .host-runs, I .agreed .host-ready)
 
     here : h .counts .send < slots (g .area) Command
     here = rw (I .commands .giver) (slot-lt g Command (length (x .sent)))
@@ -134,13 +134,7 @@ module _ (g : Site) (end : ℕ) (b : Bounds) (S : Setting g end b) (h : Host) (p
     with-send : (snd′ : Sender) → SendInv g (view g m) (withSender h snd′) x snd′ → Inv g end b (world (withSender h snd′) p m) x
     with-send snd′ new =
         record {
-          host-area = I .host-area;
-          host-pool = I .host-pool;
-          host-runs = I .host-runs;
-          host-ready = I .host-ready;
-          go = I .go;
-          port-runs = I .port-runs;
-          limit = I .limit;
+          agreed = I .agreed;
           size = I .size;
           commands = I .commands;
           responses = I .responses;
@@ -157,13 +151,7 @@ module _ (g : Site) (end : ℕ) (b : Bounds) (S : Setting g end b) (h : Host) (p
         → Inv g end b (world (withSender h snd′) p (withWord (g .bits) m (addr g (envWord Command (h .counts .send) o)) v)) x
     with-env snd′ o v l room new =
         record {
-          host-area = I .host-area;
-          host-pool = I .host-pool;
-          host-runs = I .host-runs;
-          host-ready = I .host-ready;
-          go = I .go;
-          port-runs = I .port-runs;
-          limit = I .limit;
+          agreed = I .agreed;
           size = size-kept g end m (addr g (envWord Command (h .counts .send) o)) v (I .size);
           commands = quiet-giver g end F m (I .size) Command (h .counts .send) (p .counts .fetch) (x .sent) (x .fetched) (x .fetched) (I .commands) o v room l;
           responses = quiet-env g end F m (I .size) Response (p .counts .post) (h .counts .take) (x .posted) (x .taken) _ (I .responses) Command (h .counts .send) o v (λ s. rings) (here, l);
@@ -206,13 +194,16 @@ module _ (g : Site) (end : ℕ) (b : Bounds) (S : Setting g end b) (h : Host) (p
         → Inv g end b (world h′ p (withWord (g .bits) m (addr g (slotWord Command (h .counts .send) o)) v)) x′
     with-slot h′ x′ o v l a q sh rd ti tk inc fe po ta pg ho more nx ring new sum′ =
         record {
-          host-area = a ∙ I .host-area;
-          host-pool = q ∙ I .host-pool;
-          host-runs = sh ∙ I .host-runs;
-          host-ready = rd ∙ I .host-ready;
-          go = I .go;
-          port-runs = I .port-runs;
-          limit = I .limit;
+          agreed =
+              record {
+                host-area = a ∙ I .agreed .host-area;
+                host-pool = q ∙ I .agreed .host-pool;
+                host-runs = sh ∙ I .agreed .host-runs;
+                host-ready = rd ∙ I .agreed .host-ready;
+                go = I .agreed .go;
+                port-runs = I .agreed .port-runs;
+                limit = I .agreed .limit;
+              };
           size = size-kept g end m (addr g (slotWord Command (h .counts .send) o)) v (I .size);
           commands = ring;
           responses = rw (ti, tk, po, ta)
@@ -282,7 +273,7 @@ module _ (g : Site) (end : ℕ) (b : Bounds) (S : Setting g end b) (h : Host) (p
       step : (h .counts .account ≡ 0 → ⊥) → sendStep (g .bits) (withSender h (Sending H.Look c)) m ≡ with-memory (sendLook (withSender h (Sending H.Look c)) c (view g m (slotWord Command (c .slot) 2))) m
       step z =
           send-at (g .bits) h m H.Look c (Read (addr g (slotWord Command (c .slot) 2))) (view g m (slotWord Command (c .slot) 2)) (ready (Sending H.Look c) I)
-          (touch-look c (I .host-area) z) (reads g end F m (I .size) (slotWord Command (c .slot) 2) (valid, omega arith))
+          (touch-look c (I .agreed .host-area) z) (reads g end F m (I .size) (slotWord Command (c .slot) 2) (valid, omega arith))
 
       by : (o : Bool) → isSet owner (view g m (slotWord Command (c .slot) 2)) ≡ o → (h .counts .account ≡ 0 → ⊥) → Sim g end b stepSend w x (byHost w (sendStep (g .bits) (withSender h (Sending H.Look c)) m))
       by true e z =
@@ -332,7 +323,7 @@ module _ (g : Site) (end : ℕ) (b : Bounds) (S : Setting g end b) (h : Host) (p
   length-step c I =
       sim-of g end b stepSend (world (withSender h (Sending H.Length c)) p m) x (byHost (world (withSender h (Sending H.Length c)) p m))
       (send-at (g .bits) h m H.Length c (Write (addr g (envWord Command (h .counts .send) 0)) (c .size)) (c .size) (ready (Sending H.Length c) I)
-      (touch-len c (I .host-area) (I .host-pool) (I .send .slot)) (writes g end F m (I .size) (envWord Command (h .counts .send) 0) (c .size) (here (Sending H.Length c) I, omega arith)))
+      (touch-len c (I .agreed .host-area) (I .agreed .host-pool) (I .send .slot)) (writes g end F m (I .size) (envWord Command (h .counts .send) 0) (c .size) (here (Sending H.Length c) I, omega arith)))
       record {
         moment = later;
         past = x;
@@ -418,7 +409,7 @@ module _ (g : Site) (end : ℕ) (b : Bounds) (S : Setting g end b) (h : Host) (p
       on-sim H.Header c 0 2 0 (omega arith) I (I .send .progress .0) (omega arith)
       (put-head g end F m (I .size) Command (h .counts .send) (here (Sending H.Header c) I) (x .sending) (I .send .short) 0 0 refl (rw (← I .send .slot) (I .send .progress .1)))
       (send-at (g .bits) h m H.Header c (Write (addr g (envWord Command (h .counts .send) 2)) 0) 0 (ready (Sending H.Header c) I)
-      (touch-head c (I .host-area) (I .host-pool) (I .send .slot)) (writes g end F m (I .size) (envWord Command (h .counts .send) 2) 0 (here (Sending H.Header c) I, omega arith)))
+      (touch-head c (I .agreed .host-area) (I .agreed .host-pool) (I .send .slot)) (writes g end F m (I .size) (envWord Command (h .counts .send) 2) 0 (here (Sending H.Header c) I, omega arith)))
 
   text-step : (c : Cursor) → Inv g end b (world (withSender h (Sending H.Text c)) p m) x
       → Sim g end b stepSend (world (withSender h (Sending H.Text c)) p m) x (byHost (world (withSender h (Sending H.Text c)) p m) (sendStep (g .bits) (withSender h (Sending H.Text c)) m))
@@ -429,7 +420,7 @@ module _ (g : Site) (end : ℕ) (b : Bounds) (S : Setting g end b) (h : Host) (p
       (put-word g end F m (I .size) Command (h .counts .send) (here (Sending H.Text c) I) (x .sending) (I .send .short) 0 (c .at) v (I .send .bytes) few
       (ap (λ (y : List ℕ). wordOf y (c .size) (c .at)) (I .send .text) ∙ ap (λ (y : ℕ). wordOf (padded (x .sending)) y (c .at)) (I .send .size)) (rw (← I .send .slot) (I .send .progress .1 .0)))
       (send-at (g .bits) h m H.Text c (Write (addr g (envWord Command (h .counts .send) (4 + 2 * c .at))) v) v (ready (Sending H.Text c) I)
-      (touch-text c (I .host-area) (I .host-pool) (I .send .slot))
+      (touch-text c (I .agreed .host-area) (I .agreed .host-pool) (I .send .slot))
       (writes g end F m (I .size) (envWord Command (h .counts .send) (4 + 2 * c .at)) v (here (Sending H.Text c) I, omega (arith, few, I .send .short))))
 
   -- the low word, with the pool's address
@@ -441,7 +432,7 @@ module _ (g : Site) (end : ℕ) (b : Bounds) (S : Setting g end b) (h : Host) (p
       let at : i < slots (g .area) Command = here (Sending H.Low c) I in
       sim-of g end b stepSend (world (withSender h (Sending H.Low c)) p m) x (byHost (world (withSender h (Sending H.Low c)) p m))
       (send-at (g .bits) h m H.Low c (Write (addr g (slotWord Command i 0)) v) v (ready (Sending H.Low c) I)
-      (touch-low c (I .host-area) (I .host-pool) (I .send .slot)) (writes g end F m (I .size) (slotWord Command i 0) v (at, omega arith)))
+      (touch-low c (I .agreed .host-area) (I .agreed .host-pool) (I .send .slot)) (writes g end F m (I .size) (slotWord Command i 0) v (at, omega arith)))
       record {
         moment = later;
         past = x;
@@ -510,8 +501,8 @@ module _ (g : Site) (end : ℕ) (b : Bounds) (S : Setting g end b) (h : Host) (p
       let more : drop (x .fetched) (x .sent ++ (entry (x .sending) 0 ∷ [])) ≡ drop (x .fetched) (x .sent) ++ (entry (x .sending) 0 ∷ []) = left-more (x .sent) (x .fetched) (entry (x .sending) 0) le in
       sim-of g end b stepSend w x (byHost w)
       (send-at (g .bits) h m H.Give c (Write (addr g (slotWord Command i 2)) v) v (ready (Sending H.Give c) I)
-      (touch-give c (I .host-area) (I .host-pool) (I .send .slot)) (writes g end F m (I .size) (slotWord Command i 2) v (at, omega arith))
-      ∙ give-is c m′ (I .host-area) (I .send .slot))
+      (touch-give c (I .agreed .host-area) (I .agreed .host-pool) (I .send .slot)) (writes g end F m (I .size) (slotWord Command i 2) v (at, omega arith))
+      ∙ give-is c m′ (I .agreed .host-area) (I .send .slot))
       record {
         moment = now;
         past = one-more;

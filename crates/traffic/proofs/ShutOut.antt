@@ -1,7 +1,7 @@
 -- Each of the wrong halves breaks the promise: the run is computed, and an answer or a number is another. Assumes nothing.
 use Prim.Native.Nat.{ℕ}
-use mathlib.Core.Path.{_≡_, ap}
-use mathlib.Core.List.{List}
+use mathlib.Core.Path.{_≡_, refl, ap}
+use mathlib.Core.List.{List, []}
 use native.Mathlib.Omega.{arith}
 use lib.ListN.{getD}
 use Rattle.texts.specs.Texts.{zeros, byteAt, withByte, wordOf, withText, padded}
@@ -21,9 +21,14 @@ use Rattle.host.specs.Take.{takeTouch, takeLook, takeOn, takeHeader, takeText, 
 use Rattle.meeting.specs.Meeting.{opened, exchange, exchanges}
 use Rattle.plain.specs.Plain.{full, send, fetch, post, take}
 use Rattle.traffic.specs.World.{Ans}
-use Rattle.traffic.specs.Instance.{shown}
+use Rattle.traffic.specs.Instance.{smallSettings, small, shown}
+use Rattle.traffic.specs.Traffic.{Start}
 use Rattle.traffic.specs.ShutOut.{Keeps, sendingBy, fetchingBy, postingBy, betweenTheWords, whileWriting, whileReading, sendNone, onceAround, ShutOut}
 use Rattle.traffic.specs.Errors.{highWordFirst, fetchedUnlooked, returnedUnread, fifteenEach, accountKept, owedKept}
+
+small-start : Start smallSettings small [] 64
+unfolding zeros byteAt withByte wordOf withText padded usable lies inside wordAt withWord cleared faultOf carriedOf leftOf slots base slotAt nextOf beforeOf alone indicator envelopeAt hasVector stepInterrupt areaLies areaCleared fits slotSet slotsSet setUp created saOf firstHeard saWritten tailStart tailTouch tailAfter fetchTouch fetchHigh fetchLow fetchOn fetchHeader fetchText fetched fetchRelease fetchAfter fetchTailed fetchStep fetchBegun creditsOf postTouch postHigh postLow postOn posted postRelease postAfter postTailed postStep postBegun isReady accepts begun expecting saSeen setUpBy sendTouch sendLook sendOn sent sendAfter sendStep sendBegun takeTouch takeLook takeOn takeHeader takeText taken takeClosed takeAfter takeStep takeBegun opened exchange exchanges full send fetch post take
+small-start = record { settings = refl; area-in = refl; some = omega arith; most = omega arith; polls = tt; bytes = tt; setup = refl }
 
 high-word-first : Keeps (sendingBy highWordFirst) betweenTheWords → ⊥
 unfolding zeros byteAt withByte wordOf withText padded usable lies inside wordAt withWord cleared faultOf carriedOf leftOf slots base slotAt nextOf beforeOf alone indicator envelopeAt hasVector stepInterrupt areaLies areaCleared fits slotSet slotsSet setUp created saOf firstHeard saWritten tailStart tailTouch tailAfter fetchTouch fetchHigh fetchLow fetchOn fetchHeader fetchText fetched fetchRelease fetchAfter fetchTailed fetchStep fetchBegun creditsOf postTouch postHigh postLow postOn posted postRelease postAfter postTailed postStep postBegun isReady accepts begun expecting saSeen setUpBy sendTouch sendLook sendOn sent sendAfter sendStep sendBegun takeTouch takeLook takeOn takeHeader takeText taken takeClosed takeAfter takeStep takeBegun opened exchange exchanges full send fetch post take
@@ -58,6 +63,7 @@ owed-kept P = let z : _≡_ {A = ℕ} 0 1 = P .owed in
 pub shut-out : ShutOut
 shut-out =
     record {
+      starts = small-start;
       high-word-first = high-word-first;
       fetched-unlooked = fetched-unlooked;
       returned-unread = returned-unread;

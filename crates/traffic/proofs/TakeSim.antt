@@ -115,7 +115,7 @@ module _ (g : Site) (end : ℕ) (b : Bounds) (S : Setting g end b) (h : Host) (p
   module _ (tk : Taker) (I : Inv g end b (world (withTaker h tk) p m) x) where
     ready : isReady h ≡ true
     unfolding isReady
-    ready = rw (I .host-runs, I .host-ready)
+    ready = rw (I .agreed .host-runs, I .agreed .host-ready)
 
     here : h .counts .take < slots (g .area) Response
     here = rw (I .responses .taker) (slot-lt g Response (x .taken))
@@ -126,13 +126,7 @@ module _ (g : Site) (end : ℕ) (b : Bounds) (S : Setting g end b) (h : Host) (p
         → TakeInv g (withTaker (withIncoming h room) tk′) x tk′ → Inv g end b (world (withTaker (withIncoming h room) tk′) p m) x
     with-take room tk′ ring new =
         record {
-          host-area = I .host-area;
-          host-pool = I .host-pool;
-          host-runs = I .host-runs;
-          host-ready = I .host-ready;
-          go = I .go;
-          port-runs = I .port-runs;
-          limit = I .limit;
+          agreed = I .agreed;
           size = I .size;
           commands = I .commands;
           responses = ring;
@@ -161,7 +155,7 @@ module _ (g : Site) (end : ℕ) (b : Bounds) (S : Setting g end b) (h : Host) (p
       step : takeStep (g .bits) (withTaker h (Taking T.Look c)) m ≡ with-memory (takeLook (withTaker h (Taking T.Look c)) c word) m
       step =
           take-at (g .bits) h m T.Look c (Read (addr g (slotWord Response (h .counts .take) 2))) word (ready (Taking T.Look c) I)
-          (touch-look c (I .host-area) (I .take .slot)) (reads g end F m (I .size) (slotWord Response (h .counts .take) 2) (here (Taking T.Look c) I, omega arith))
+          (touch-look c (I .agreed .host-area) (I .take .slot)) (reads g end F m (I .size) (slotWord Response (h .counts .take) 2) (here (Taking T.Look c) I, omega arith))
 
       by : (o : Bool) → isSet owner word ≡ o → Sim g end b stepTake w x (byHost w (takeStep (g .bits) (withTaker h (Taking T.Look c)) m))
       by true e =
@@ -213,7 +207,7 @@ module _ (g : Site) (end : ℕ) (b : Bounds) (S : Setting g end b) (h : Host) (p
       let L = taking T.Length c refl I (I .take .progress .0 .some) in
       sim-of g end b stepTake (world (withTaker h (Taking T.Length c)) p m) x (byHost (world (withTaker h (Taking T.Length c)) p m))
       (take-at (g .bits) h m T.Length c (Read (addr g (envWord Response (h .counts .take) 0))) v (ready (Taking T.Length c) I)
-      (touch-len c (I .host-area) (I .host-pool) (I .take .slot)) (reads g end F m (I .size) (envWord Response (h .counts .take) 0) (here (Taking T.Length c) I, omega arith)))
+      (touch-len c (I .agreed .host-area) (I .agreed .host-pool) (I .take .slot)) (reads g end F m (I .size) (envWord Response (h .counts .take) 0) (here (Taking T.Length c) I, omega arith)))
       record {
         moment = later;
         past = x;
@@ -281,7 +275,7 @@ module _ (g : Site) (end : ℕ) (b : Bounds) (S : Setting g end b) (h : Host) (p
       on-sim T.Header c (withCredits c k) (h .incoming) 0 refl I (I .take .slot) (I .take .progress .0)
       (rw (I .take .progress .1 .0) (got-none (nextResponse x .text))) (I .take .progress .1 .1) refl (L .short)
       (take-at (g .bits) h m T.Header c (Read (addr g (envWord Response (h .counts .take) 2))) v (ready (Taking T.Header c) I)
-      (touch-head c (I .host-area) (I .host-pool) (I .take .slot)) (reads g end F m (I .size) (envWord Response (h .counts .take) 2) (here (Taking T.Header c) I, omega arith))
+      (touch-head c (I .agreed .host-area) (I .agreed .host-pool) (I .take .slot)) (reads g end F m (I .size) (envWord Response (h .counts .take) 2) (here (Taking T.Header c) I, omega arith))
       ∙ header-on h m c v k
       (sound (of messageType v) (of connection v) (c .size) (ap (of messageType) (L .head) ∙ header-type k) (ap (of connection) (L .head) ∙ header-connection k) (rw (I .take .progress .1 .1) (L .short)))
       (ap (of credits) (L .head) ∙ header-credits k (L .few)) (omega (arith, affords T.Header c I some)))
@@ -302,7 +296,7 @@ module _ (g : Site) (end : ℕ) (b : Bounds) (S : Setting g end b) (h : Host) (p
       on-sim T.Text c c (withText (h .incoming) (c .size) (c .at) v) (c .at + 1) refl I (I .take .slot) (P .0)
       (rw (P .1 .1 .0, L .words (c .at) few) (got-more (h .incoming) t (c .at) (L .bytes) (L .short) (P .1 .0) few)) (P .1 .1 .0) (P .1 .1 .1 .0) (L .short)
       (take-at (g .bits) h m T.Text c (Read (addr g (envWord Response (h .counts .take) (4 + 2 * c .at)))) v (ready (Taking T.Text c) I)
-      (touch-text c (I .host-area) (I .host-pool) (I .take .slot))
+      (touch-text c (I .agreed .host-area) (I .agreed .host-pool) (I .take .slot))
       (reads g end F m (I .size) (envWord Response (h .counts .take) (4 + 2 * c .at)) (here (Taking T.Text c) I, omega (arith, few, L .short)))
       ∙ text-is c v)
 
@@ -317,19 +311,13 @@ module _ (g : Site) (end : ℕ) (b : Bounds) (S : Setting g end b) (h : Host) (p
       let m′ : Memory = withWord (g .bits) m (addr g (envWord Response i 0)) 60 in
       sim-of g end b stepTake (world (withTaker h (Taking T.Refill c)) p m) x (byHost (world (withTaker h (Taking T.Refill c)) p m))
       (take-at (g .bits) h m T.Refill c (Write (addr g (envWord Response i 0)) 60) 60 (ready (Taking T.Refill c) I)
-      (touch-refill c (I .host-area) (I .host-pool) (I .take .slot)) (writes g end F m (I .size) (envWord Response i 0) 60 (at, omega arith)))
+      (touch-refill c (I .agreed .host-area) (I .agreed .host-pool) (I .take .slot)) (writes g end F m (I .size) (envWord Response i 0) 60 (at, omega arith)))
       record {
         moment = later;
         past = x;
         inv =
             record {
-              host-area = I .host-area;
-              host-pool = I .host-pool;
-              host-runs = I .host-runs;
-              host-ready = I .host-ready;
-              go = I .go;
-              port-runs = I .port-runs;
-              limit = I .limit;
+              agreed = I .agreed;
               size = size-kept g end m (addr g (envWord Response i 0)) 60 (I .size);
               commands = quiet-env g end F m (I .size) Command (h .counts .send) (p .counts .fetch) (x .sent) (x .fetched) (x .fetched) (I .commands) Response i 0 60 (λ s. rings′) (at, omega arith);
               responses =
@@ -411,20 +399,14 @@ module _ (g : Site) (end : ℕ) (b : Bounds) (S : Setting g end b) (h : Host) (p
       let done-it = take-ok b (plainOf w x) (nextResponse x) (drop (suc (x .taken)) (x .posted)) rest in
       sim-of g end b stepTake w x (byHost w)
       (take-at (g .bits) h m T.Give c (Write (addr g (slotWord Response i 2)) v) v (ready (Taking T.Give c) I)
-      (touch-give c (I .host-area) (I .take .slot)) (writes g end F m (I .size) (slotWord Response i 2) v (at, omega arith))
-      ∙ give-is c m′ v (I .host-area) (I .take .slot) (omega (arith, affords T.Give c I some, cr)))
+      (touch-give c (I .agreed .host-area) (I .take .slot)) (writes g end F m (I .size) (slotWord Response i 2) v (at, omega arith))
+      ∙ give-is c m′ v (I .agreed .host-area) (I .take .slot) (omega (arith, affords T.Give c I some, cr)))
       record {
         moment = now;
         past = one-less;
         inv =
             record {
-              host-area = I .host-area;
-              host-pool = I .host-pool;
-              host-runs = I .host-runs;
-              host-ready = I .host-ready;
-              go = I .go;
-              port-runs = I .port-runs;
-              limit = I .limit;
+              agreed = I .agreed;
               size = size-kept g end m (addr g (slotWord Response i 2)) v (I .size);
               commands = quiet-slot g end F m (I .size) Command (h .counts .send) (p .counts .fetch) (x .sent) (x .fetched) (x .fetched) (I .commands) Response i 2 v (λ s. rings′) (at, omega arith);
               responses =

@@ -1,14 +1,15 @@
 -- What holds of host, port and memory after every step of a run, and the plain machine's state that they stand for.
 use Prim.Native.Nat.{ℕ, suc, _+_, _*_, _/_, _^_, _<_, _≤_}
 use mathlib.Core.Path.{_≡_}
-use mathlib.Core.Bool.{true}
+use mathlib.Core.Bool.{Bool, true}
 use mathlib.Core.List.{List}
 use lib.ListN.{length, getD, drop}
 use Rattle.words.specs.Fields.{of, addressHigh}
 use Rattle.words.specs.Words.{headerWord}
-use Rattle.texts.specs.Texts.{wordsOf, zeros, wordOf, padded}
+use Rattle.texts.specs.Texts.{wordsOf, room, zeros, wordOf, padded}
 use Rattle.memory.specs.Memory.{usable}
 use Rattle.area.specs.Layout.{slots, envelopeAt}
+use Rattle.area.specs.declared.Area.{Area}
 use Rattle.area.specs.declared.Ring.{Ring}
 use Rattle.area.specs.declared.Ring.the-variants.{Command, Response}
 use Rattle.layout.specs.Facts.{AreaFacts}
@@ -22,9 +23,12 @@ use Rattle.port.specs.declared.state.Fetcher.{Fetcher}
 use Rattle.port.specs.declared.state.Fetcher.the-variants.{NoFetch, Fetching, FetchTail}
 use Rattle.port.specs.declared.state.Poster.{Poster}
 use Rattle.port.specs.declared.state.Poster.the-variants.{NoPost, Posting, PostTail}
+use Rattle.port.specs.declared.state.Made.{Made}
+use Rattle.port.specs.declared.state.Phase.{Phase}
 use Rattle.port.specs.declared.state.Phase.the-variants.{Running}
 use Rattle.port.specs.declared.state.Port.{Port}
 use Rattle.host.specs.declared.state.Cursor as HostCursor
+use Rattle.host.specs.declared.state.Shake.{Shake}
 use Rattle.host.specs.declared.state.Shake.the-variants.{Finished}
 use Rattle.host.specs.declared.state.SendStage.{SendStage}
 use Rattle.host.specs.declared.state.SendStage.the-variants as H
@@ -81,7 +85,7 @@ SendProgress g v h x H.Give c = MayGive g (h .counts .account) x × Written v Co
 pub record SendOn (g : Site) (v : Place → ℕ) (h : Host) (x : Past) (s : SendStage) (c : HostCursor.Cursor) : Type 0 where
   pub slot : c .slot ≡ h .counts .send
   pub size : c .size ≡ length (x .sending)
-  pub short : length (x .sending) ≤ 60
+  pub short : length (x .sending) ≤ room
   pub bytes : Bytes (x .sending)
   pub text : h .outgoing ≡ padded (x .sending)
   pub progress : SendProgress g v h x s c
@@ -155,7 +159,7 @@ PostProgress g v p x S.Release c =
 pub record PostOn (g : Site) (v : Place → ℕ) (p : Port) (x : Past) (s : Stage) (c : PortCursor.Cursor) : Type 0 where
   pub slot : c .slot ≡ p .counts .post
   pub size : c .size ≡ length (x .posting)
-  pub short : length (x .posting) ≤ 60
+  pub short : length (x .posting) ≤ room
   pub bytes : Bytes (x .posting)
   pub text : p .outgoing ≡ padded (x .posting)
   pub waits : c .answers ≡ true → 1 ≤ p .counts .unanswered
@@ -207,15 +211,19 @@ wholeFrom k (Taking T.Give c) = suc k
 
 ---------------------------------------------------------------- all of it
 
+-- What both halves agreed on in the handshake and at the setup, and keep: area and pool, that both run, the limit.
+pub record Agreed (g : Site) (b : Bounds) (area : Area) (pool : ℕ) (shake : Shake) (ready : Bool) (phase : Phase) (made : Made) : Type 0 where
+  pub host-area : area ≡ g .area
+  pub host-pool : pool ≡ g .pool
+  pub host-runs : shake ≡ Finished
+  pub host-ready : ready ≡ true
+  pub go : ℕ
+  pub port-runs : phase ≡ Running (g .area) go
+  pub limit : made .limit ≡ b .limit
+
 pub record Inv (g : Site) (end : ℕ) (b : Bounds) (w : World) (x : Past) : Type 0 where
   -- the settings are shared, and stay
-  pub host-area : w .host .area ≡ g .area
-  pub host-pool : w .host .pool ≡ g .pool
-  pub host-runs : w .host .shake ≡ Finished
-  pub host-ready : w .host .ready ≡ true
-  pub go : ℕ
-  pub port-runs : w .port .phase ≡ Running (g .area) go
-  pub limit : w .port .made .limit ≡ b .limit
+  pub agreed : Agreed g b (w .host .area) (w .host .pool) (w .host .shake) (w .host .ready) (w .port .phase) (w .port .made)
   pub size : end ≡ usable (g .bits) (length (w .memory))
   -- the two rings
   pub commands : RingInv g (view g (w .memory)) Command (w .host .counts .send) (w .port .counts .fetch) (x .sent) (x .fetched) (x .fetched)

@@ -5,7 +5,7 @@ use mathlib.Core.List.{List, [], _∷_}
 use lib.Dec.{leb, eqb}
 use lib.ListN.{length}
 use Rattle.words.specs.Fields.{of, isSet, er, fatalCode}
-use Rattle.texts.specs.Texts.{zeros, padded}
+use Rattle.texts.specs.Texts.{room, zeros, padded}
 use Rattle.answers.specs.Told as Told
 use Rattle.host.specs.Shake as Shake
 use Rattle.plain.specs.Plain.{Bounds, Plain, Closed, done, got, refused}
@@ -92,13 +92,13 @@ inPoster s v = played (call (v .ans)) (game (v .plain) (s .sender) (s .taker) (s
 
 -- The same calls. Clearing an indicator and all that concerns SA leave the plain machine alone: SA reads 0 throughout.
 abbrev pub play : Bounds → Moment → Ev → Play → Played
-play b m (beginSend f t) s = inSender s (begun (leb (length t) 60) false (sends t) (s .sender) (s .plain))
+play b m (beginSend f t) s = inSender s (begun (leb (length t) room) false (sends t) (s .sender) (s .plain))
 play b m stepSend s = inSender s (stepped b m (s .sender) (s .plain))
 play b m beginTake s = inTaker s (begun true false takes (s .taker) (s .plain))
 play b m stepTake s = inTaker s (stepped b m (s .taker) (s .plain))
 play b m beginFetch s = inFetcher s (begun true false fetches (s .fetcher) (s .plain))
 play b m stepFetch s = inFetcher s (stepped b m (s .fetcher) (s .plain))
-play b m (beginPost a t) s = inPoster s (begun (leb (length t) 60) (a && eqb (s .plain .unanswered) 0) (posts a t) (s .poster) (s .plain))
+play b m (beginPost a t) s = inPoster s (begun (leb (length t) room) (a && eqb (s .plain .unanswered) 0) (posts a t) (s .poster) (s .plain))
 play b m stepPost s = inPoster s (stepped b m (s .poster) (s .plain))
 play b m (clearMark r) s = played (call (heard Told.done)) s
 play b m readSa s = played (word 0) s

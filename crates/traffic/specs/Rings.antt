@@ -7,7 +7,7 @@ use mathlib.Core.List.{List, []}
 use lib.ListN.{length, getD}
 use Rattle.words.specs.Fields.{of, isSet, owner, addressHigh}
 use Rattle.words.specs.Words.{lowWord, headerWord}
-use Rattle.texts.specs.Texts.{wordsOf, wordOf, padded}
+use Rattle.texts.specs.Texts.{wordsOf, room, wordOf, padded}
 use Rattle.area.specs.Layout.{slots, envelopeAt}
 use Rattle.area.specs.declared.Ring.{Ring}
 use Rattle.area.specs.declared.Ring.the-variants.{Command, Response}
@@ -21,7 +21,7 @@ waits Response w = not (isSet owner w)
 
 -- A message as its envelope holds it.
 pub record Letter (v : Place → ℕ) (r : Ring) (s : ℕ) (e : Entry) : Type 0 where
-  pub short : length (e .text) ≤ 60
+  pub short : length (e .text) ≤ room
   pub bytes : (j : ℕ) → getD (e .text) j 0 < 256
   pub few : e .credits < 16
   pub len : v (envWord r s 0) ≡ length (e .text)

@@ -12,7 +12,7 @@ use Rattle.host.specs.State as HostState
 use Rattle.host.specs.declared.state.Host.{Host}
 use Rattle.traffic.specs.World.{Ev, beginSend, stepSend, beginTake, stepTake, beginFetch, stepFetch, beginPost, stepPost, Halves, ours, actBy}
 use Rattle.traffic.specs.Play.{idle, game}
-use Rattle.traffic.specs.Traffic.{started, boundsOf, siteOf, Promise}
+use Rattle.traffic.specs.Traffic.{started, Start, boundsOf, siteOf, Promise}
 use Rattle.traffic.specs.Instance.{smallSettings, small}
 use Rattle.traffic.specs.Errors.{highWordFirst, fetchedUnlooked, returnedUnread, fifteenEach, accountKept, owedKept}
 
@@ -68,7 +68,9 @@ whileReading =
 abbrev pub onceAround : List Ev
 onceAround = sendNone ++ fetchNone ++ answerNone ++ takeNone
 
+-- The small start is one of those that the theorem is about, so halves that break the promise there have no such theorem.
 pub record ShutOut : Type 0 where
+  pub starts : Start smallSettings small [] 64
   pub high-word-first : Keeps (sendingBy highWordFirst) betweenTheWords → ⊥
   pub fetched-unlooked : Keeps (fetchingBy fetchedUnlooked) whileWriting → ⊥
   pub returned-unread : Keeps (fetchingBy returnedUnread) whileReading → ⊥

@@ -6,6 +6,7 @@ use lib.Dec.{eqb}
 use mathlib.Core.List.{List, [], _∷_}
 use lib.ListN.{length, getD}
 use Rattle.words.specs.Words.{addressBits}
+use Rattle.texts.specs.Texts.{padded}
 use Rattle.answers.specs.Told.{Closing, going, done, refused, fatal, told}
 use Rattle.area.specs.Layout.{slots, areaLies}
 use Rattle.area.specs.declared.Ring.the-variants.{Command, Response}
@@ -15,6 +16,9 @@ use Rattle.port.specs.Shake.{saOf}
 use Rattle.host.specs.Shake.{accepts, areaOf}
 use Rattle.host.specs.Setup.{setUpBy}
 use Rattle.host.specs.declared.state.Beginning.{Beginning}
+use Rattle.host.specs.declared.state.Cursor.{Cursor}
+use Rattle.host.specs.declared.state.TakeStage.the-variants.{Give}
+use Rattle.host.specs.declared.state.Taker.the-variants.{Taking}
 use Rattle.meeting.specs.Meeting.{Pair, exchanges, opened}
 use Rattle.traffic.specs.Places.{Site, view}
 use Rattle.traffic.specs.Rings.{Letter, blank}
@@ -116,12 +120,14 @@ pub record Promise (f : Halves) (g : Site) (b : Bounds) (es : List Ev) (w : Worl
   pub account : reckoned f b es w s .account ≡ final f es w .host .counts .account
   pub unanswered : reckoned f b es w s .unanswered ≡ final f es w .port .counts .unanswered
   pub owed : reckoned f b es w s .owed ≡ final f es w .port .counts .owed
-  -- and the envelopes in memory: what the queues hold stands in the rings from the taker's slot on, with its bytes and credits
-  -- (but for a response that the host has read and is about to give back)
+  -- and the envelopes in memory: what the queues hold stands in the rings from the taker's slot on, with its bytes and credits;
+  -- a response that the host has read and is about to give back is in its hand
   pub commands-held : (k : ℕ) → k < length (reckoned f b es w s .commands)
       → Letter (view g (final f es w .memory)) Command ((final f es w .port .counts .fetch + k) % slots (g .area) Command) (getD (reckoned f b es w s .commands) k blank)
   pub responses-held : (k : ℕ) → wholeFrom 0 (final f es w .host .taker) ≤ k → k < length (reckoned f b es w s .responses)
       → Letter (view g (final f es w .memory)) Response ((final f es w .host .counts .take + k) % slots (g .area) Response) (getD (reckoned f b es w s .responses) k blank)
+  pub response-in-hand : (c : Cursor) → final f es w .host .taker ≡ Taking Give c
+      → (final f es w .host .incoming ≡ padded (getD (reckoned f b es w s .responses) 0 blank .text)) × (c .credits ≡ getD (reckoned f b es w s .responses) 0 blank .credits)
   -- no fatal error: SA reads 0, and no call answers 9 or 10 or a fatal code
   pub quiet : saOf (final f es w .port) ≡ 0
   pub calm : AllCalm (answers f es w)

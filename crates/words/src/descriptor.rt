@@ -6,6 +6,9 @@ use crate::field::is_set;
 use crate::field::part;
 use crate::field::placed;
 
+// The first address past 18 bits.
+pub const END: u32 = 262144;
+
 // The address that a low and a high word say; bit 0 is taken as 0.
 pub fn address(low: u16, high: u16) -> u32
     ensures { λ r. ⌜ r ≡ addressOf addressBits low high ⌝ }

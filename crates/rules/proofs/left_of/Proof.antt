@@ -1,6 +1,10 @@
+use native.Mathlib.Omega.{arith}
 use Rattle.rules.proofs.Laws.{left-few, left-most}
 use Rattle.rules.proofs.left_of.Statement.{statement}
 use Rattle.rules.proofs.left_of.Tie as tie
+
+sub-result : tie.Need-sub-result
+sub-result c = omega (arith, c .if1 .left)
 
 returns : tie.Need-returns
 returns c = left-few _ (c .if1 .taken)
@@ -9,4 +13,4 @@ returns-2 : tie.Need-returns-2
 returns-2 c = left-most _ (c .if1 .left)
 
 pub left-of-spec : {M : Type 1} → statement M
-left-of-spec = tie.close (tie.spec returns returns-2)
+left-of-spec = tie.close (tie.spec sub-result returns returns-2)
