@@ -1,1 +1,2 @@
 pub mod Meet
+pub mod Ways

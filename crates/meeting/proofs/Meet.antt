@@ -58,10 +58,10 @@ step4-bits : (v : ℕ) → of stepBits (step4Word v) ≡ 8
 step4-bits v = omega arith
 
 -- what the host's first word says to the port
-first-one : (c r : ℕ) (i : Bool) (v : ℕ) → isSet one (firstWord c r i v) ≡ true
+pub first-one : (c r : ℕ) (i : Bool) (v : ℕ) → isSet one (firstWord c r i v) ≡ true
 first-one c r i v = eq-eqb (of one (firstWord c r i v)) 1 (omega (arith, flag-lt i))
 
-first-wr : (c r : ℕ) (i : Bool) (v : ℕ) → isSet wr (firstWord c r i v) ≡ false
+pub first-wr : (c r : ℕ) (i : Bool) (v : ℕ) → isSet wr (firstWord c r i v) ≡ false
 first-wr c r i v = ne-eqb (of wr (firstWord c r i v)) 1 (λ e. omega (arith, flag-lt i))
 
 -- the four exchanges

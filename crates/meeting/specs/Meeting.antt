@@ -2,6 +2,8 @@
 use Prim.Native.Nat.{ℕ, zero, suc}
 use mathlib.Core.Path.{_≡_}
 use mathlib.Core.Bool.{true}
+use mathlib.Core.List.{List, [], _∷_}
+use lib.ListN.{length}
 use Rattle.words.specs.Fields.{of, isSet, ie, vector}
 use Rattle.words.specs.Words.{addressBits, goWord}
 use Rattle.memory.specs.Memory.{Memory}
@@ -12,7 +14,7 @@ use Rattle.port.specs.Shake.{saOf, saWritten}
 use Rattle.port.specs.declared.state.Phase.the-variants.{Running}
 use Rattle.port.specs.declared.state.Port.{Port}
 use Rattle.host.specs.State as HostState
-use Rattle.host.specs.Shake.{Asks, writesIp, writesSa, waiting, dead, none, portFatal, refused, accepts, areaOf, begun, saSeen}
+use Rattle.host.specs.Shake.{Asks, writesIp, writesSa, waiting, dead, none, portFatal, refused, accepts, areaOf, begun, saSeen, timeUp}
 use Rattle.host.specs.declared.state.Shake.the-variants.{Finished}
 use Rattle.host.specs.declared.state.Beginning.{Beginning}
 use Rattle.host.specs.declared.state.Host.{Host}
@@ -62,6 +64,37 @@ pub record Meets (b : Beginning) (x : Pair) : Type 0 where
   pub interrupts : isSet ie (areaOf b .first) ≡ b .interrupts
   pub vector-asked : of vector (areaOf b .first) ≡ b .vector
   pub base-asked : base addressBits (areaOf b) ≡ b .base
+
+-- What the host may meet with on the way: a word, whatever it is, or the end of its time. What it asks then is done.
+pub data Sight : Type 0 where
+  shown : ℕ → Sight
+  late : Sight
+
+abbrev pub sees : Sight → Pair → Pair
+sees (shown w) x = obeyed (saSeen (x .host) w .state) (x .port) (x .memory) (saSeen (x .host) w .asks)
+sees late x = obeyed (timeUp (x .host) .state) (x .port) (x .memory) (timeUp (x .host) .asks)
+
+abbrev pub seesAll : List Sight → Pair → Pair
+seesAll [] x = x
+seesAll (v ∷ vs) x = seesAll vs (sees v x)
+
+-- Whatever the host meets with, early words and late ones, wrong echoes, a second write of IP: where its handshake is finished both run
+-- with the same three words, as after four exchanges over some memory of the same length.
+pub record Came (b : Beginning) (x : Pair) (y : Pair) : Type 0 where
+  pub before : Memory
+  pub long : length before ≡ length (x .memory)
+  pub inside : areaLies addressBits before (areaOf b) ≡ true
+  pub runs : y ≡ running b (x .port) before
+
+abbrev pub EveryWay : Type 0
+EveryWay =
+    (b : Beginning) (x : Pair) (vs : List Sight) → accepts addressBits b ≡ true → areaLies addressBits (x .memory) (areaOf b) ≡ true
+    → seesAll vs (opened b x) .host .shake ≡ Finished → Came b x (seesAll vs (opened b x))
+
+-- The words that the port shows, one after the other.
+abbrev pub honest : ℕ → Pair → List Sight
+honest zero x = []
+honest (suc k) x = shown (saOf (x .port)) ∷ honest k (exchange x)
 
 abbrev pub EveryMeeting : Type 0
 EveryMeeting = (b : Beginning) (x : Pair) → accepts addressBits b ≡ true → areaLies addressBits (x .memory) (areaOf b) ≡ true → Meets b x

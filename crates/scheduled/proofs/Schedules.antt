@@ -10,6 +10,9 @@ use borrow.Author.Tests.{le-leb, leb-true}
 use Rattle.words.specs.Words.{addressBits}
 use Rattle.memory.specs.Memory.{Memory}
 use Rattle.port.specs.Shake.{created, saOf}
+use Rattle.meeting.specs.Meeting.{Pair, opened}
+use Rattle.meeting.proofs.Ways.{honest-is}
+use Rattle.host.specs.Setup.{setUpBy}
 use Rattle.plain.specs.Plain.{start}
 use Rattle.scheduling.specs.Machine.{Stand, bytesOf, oldest, afterSend, afterTake, afterFetch, afterAnswer, sendTurn, takeTurn, fetchTurn, answerTurn}
 use Rattle.scheduling.specs.Drive.{sideOf, turnOf, turnsOf, byteTurns, bytesTurns}
@@ -23,7 +26,7 @@ use Rattle.traffic.specs.Play.{Job, idle, game}
 use Rattle.traffic.specs.Traffic.{AllProper, Start, siteOf, Promise, AtStart}
 use Rattle.traffic.proofs.Demand.{every-run}
 use Rattle.traffic.proofs.Instances.{every-pair}
-use Rattle.scheduled.specs.Calls.{turnCalls, turnsCalls, bytesCalls, settingsOf, halvesOf, callsOf, openingOf, bounds, atRest, Scheduled, EverySchedule}
+use Rattle.scheduled.specs.Calls.{turnCalls, turnsCalls, bytesCalls, settingsOf, halvesOf, wayOf, callsOf, openingOf, bounds, atRest, Scheduled, EverySchedule}
 
 -- the two halves and the memory of a machine
 abbrev within : Stand → World
@@ -85,7 +88,9 @@ bytes-proper (b ∷ bs) x =
 -- the program's opening is that of a run
 opens : (input : List ℕ) (m : Memory) → within (startedBy (commandOf input) (responseOf input) (limitOf input) m) ≡ openingOf input m
 unfolding startedBy settled
-opens input m = refl
+opens input m =
+    ap (λ (y : Pair). world (setUpBy addressBits (y .host) 2048 (y .memory) .state) (y .port) (setUpBy addressBits (y .host) 2048 (y .memory) .memory))
+    (sym (honest-is 4 (opened (settingsOf input) (halvesOf input m))))
 
 -- what an accepted input says
 and-both : (a b : Bool) → (a && b) ≡ true → (a ≡ true) × (b ≡ true)
@@ -111,13 +116,13 @@ module _ (input : List ℕ) (e : takes input ≡ true) where
   made-so = rw (le-leb 1 (limitOf input) limit-some, le-leb (limitOf input) 64 limit-most)
 
   module _ (m : Memory) (bytes : (i : ℕ) → getD input i 0 < 256) (size : length m ≡ 32768) where
-    start-is : Start (settingsOf input) (halvesOf input m) [] 2048
+    start-is : Start (settingsOf input) (halvesOf input m) (wayOf input m) [] 2048
     start-is =
         every-pair (commandOf input) (responseOf input) false 1 (halvesOf input m) (omega (arith, bytes 0)) (omega arith) (omega arith) size
         (subst (λ (l : ℕ). 1 ≤ l) (sym made-so) limit-some) (subst (λ (l : ℕ). l ≤ 64) (sym made-so) limit-most)
 
-    at : AtStart (settingsOf input) (halvesOf input m) [] 2048
-    at = every-run (settingsOf input) (halvesOf input m) [] 2048 start-is
+    at : AtStart (settingsOf input) (halvesOf input m) (wayOf input m) [] 2048
+    at = every-run (settingsOf input) (halvesOf input m) (wayOf input m) [] 2048 start-is
 
     promised : Promise (act addressBits) (siteOf (settingsOf input) 2048) (bounds input m) (callsOf input m) (openingOf input m) (atRest (bounds input m))
     promised =

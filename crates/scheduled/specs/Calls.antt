@@ -7,7 +7,7 @@ use lib.ListN.{length, getD, drop}
 use Rattle.words.specs.Words.{addressBits}
 use Rattle.memory.specs.Memory.{Memory}
 use Rattle.host.specs.declared.state.Beginning.{Beginning}
-use Rattle.meeting.specs.Meeting.{Pair, pair}
+use Rattle.meeting.specs.Meeting.{Pair, pair, opened, Sight, honest}
 use Rattle.plain.specs.Plain.{Bounds, start}
 use Rattle.scheduling.specs.Machine.{Stand, bytesOf, oldest}
 use Rattle.scheduling.specs.Drive.{sideOf, turnOf, byteTurns}
@@ -45,8 +45,12 @@ halvesOf input m = pair (unmet (limitOf input) .host) (unmet (limitOf input) .po
 abbrev pub callsOf : List ℕ → Memory → List Ev
 callsOf input m = bytesCalls (drop 2 input) (startedBy (commandOf input) (responseOf input) (limitOf input) m)
 
+-- The host is shown what the port shows, four times.
+abbrev pub wayOf : List ℕ → Memory → List Sight
+wayOf input m = honest 4 (opened (settingsOf input) (halvesOf input m))
+
 abbrev pub openingOf : List ℕ → Memory → World
-openingOf input m = started (settingsOf input) (halvesOf input m) [] 2048
+openingOf input m = started (settingsOf input) (halvesOf input m) (wayOf input m) [] 2048
 
 abbrev pub bounds : List ℕ → Memory → Bounds
 bounds input m = boundsOf (settingsOf input) (halvesOf input m)
@@ -58,7 +62,7 @@ atRest b = game (start b) idle idle idle idle
 -- An input's run is one of demand 3's: it starts where those start, its calls are theirs, and it has their promise; so what is
 -- printed for account, owed and SA is what the plain machine has.
 pub record Scheduled (input : List ℕ) (m : Memory) : Type 0 where
-  pub starts : Start (settingsOf input) (halvesOf input m) [] 2048
+  pub starts : Start (settingsOf input) (halvesOf input m) (wayOf input m) [] 2048
   pub bytes : AllProper (callsOf input m)
   pub promise : Promise (act addressBits) (siteOf (settingsOf input) 2048) (bounds input m) (callsOf input m) (openingOf input m) (atRest (bounds input m))
   pub memory : runOf input m .memory ≡ final (act addressBits) (callsOf input m) (openingOf input m) .memory

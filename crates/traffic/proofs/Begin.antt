@@ -1,39 +1,53 @@
--- A run starts where handshake, polls and an accepted setup lead. Assumes nothing.
-use Prim.Native.Nat.{ℕ, _+_, _-_, _≤_}
+-- A run starts where handshake, early calls and an accepted setup lead. Assumes nothing.
+use Prim.Native.Nat.{ℕ, zero, suc, _+_, _-_, _<_, _≤_}
 use mathlib.Core.Path.{_≡_, refl, sym, ap, subst, _∙_}
-use mathlib.Core.Bool.{Bool, true, false, _&&_, false≢true}
+use mathlib.Core.Bool.{Bool, true, false, cond, _&&_, false≢true}
 use mathlib.Core.List.{List, [], _∷_}
 use native.Mathlib.Omega.{arith}
 use lib.Dec.{leb, eqb}
-use lib.ListN.{length, getD}
-use borrow.Author.Tests.{leb-true}
-use Rattle.words.specs.Fields.{of}
+use lib.ListN.{length, getD, set}
+use borrow.Author.Tests.{leb-true, le-leb}
+use Rattle.words.specs.Fields.{of, isSet, pi}
 use Rattle.words.specs.Words.{goWord}
 use Rattle.texts.specs.Texts.{zeros, padded}
-use Rattle.memory.specs.Memory.{Memory, usable, lies, cleared}
-use Rattle.memory.specs.OneWord.{found}
-use Rattle.memory.specs.declared.Word.the-variants.{Value}
+use Rattle.memory.specs.Memory.{Memory, usable, lies, inside, withWord, cleared}
+use Rattle.memory.specs.OneWord.{found, left}
+use Rattle.memory.specs.declared.Word.{Word}
+use Rattle.memory.specs.declared.Word.the-variants.{Value, Outside}
 use Rattle.memory.specs.declared.Touch.the-variants.{Read}
 use Rattle.memory.proofs.Laws.{usable-le, inside-yes, wordAt-yes, cleared-length, cleared-inside}
-use Rattle.area.specs.Layout.{base, slotAt, ringsEnd, lead, areaLies, areaCleared}
+use Rattle.area.specs.Layout.{base, slotAt, ringsEnd, indicatorBack, indicator, lead, areaLies, areaCleared}
 use Rattle.area.specs.declared.Area.{Area}
 use Rattle.area.specs.declared.Ring.{Ring}
 use Rattle.area.specs.declared.Ring.the-variants.{Command, Response}
 use Rattle.port.specs.State as PortState
+use Rattle.port.specs.Shake.{ignored, heard, saWritten}
 use Rattle.port.specs.Fetch.{fetchTouch, fetchHigh, fetchAfter, fetchStep, fetchBegun, refuseFetch}
 use Rattle.port.specs.Post.{postTouch, postHigh, postAfter, postStep, postBegun, postWith, refusePost}
 use Rattle.port.specs.declared.state.Cursor.{Cursor}
 use Rattle.port.specs.declared.state.Made.{Made}
 use Rattle.port.specs.declared.state.Stage.the-variants as S
+use Rattle.port.specs.declared.state.Phase.{Phase}
 use Rattle.port.specs.declared.state.Phase.the-variants.{Running}
 use Rattle.port.specs.declared.state.Fetcher.{Fetcher}
 use Rattle.port.specs.declared.state.Fetcher.the-variants.{NoFetch, Fetching, FetchTail}
 use Rattle.port.specs.declared.state.Poster.{Poster}
 use Rattle.port.specs.declared.state.Poster.the-variants.{NoPost, Posting, PostTail}
 use Rattle.port.specs.declared.state.Port.{Port}
+use Rattle.host.specs.State as HostState
+use Rattle.host.specs.State.{isReady}
+use Rattle.host.specs.Shake.{sawBy, saSeen, lateBy, timeUp}
+use Rattle.host.specs.Setup.{denied, clearedBy, indicatorCleared}
+use Rattle.host.specs.Send.{refuseSend, sendStep, sendBegun}
+use Rattle.host.specs.Take.{refuseTake, takeStep, takeBegun}
+use Rattle.host.specs.declared.state.Asked.{Asked}
+use Rattle.host.specs.declared.state.Shake.{Shake}
+use Rattle.host.specs.declared.state.Shake.the-variants.{Finished}
+use Rattle.host.specs.declared.state.Sender.the-variants.{NoSend}
+use Rattle.host.specs.declared.state.Taker.the-variants.{NoTake}
 use Rattle.host.specs.declared.state.Host.{Host}
 use Rattle.traffic.specs.World.{World, world, Ev, beginSend, stepSend, beginTake, stepTake, beginFetch, stepFetch, beginPost, stepPost, clearMark, readSa, writeSa, showSa, timeIsUp, Bytes, Proper, act, final}
-use Rattle.traffic.specs.Traffic.{AllProper, Polls, AllPoll}
+use Rattle.traffic.specs.Traffic.{AllProper}
 
 -- the word at a place of a cleared area is 0
 pub zero-word : (n : ℕ) (m : Memory) (a : Area) (q : ℕ) → areaLies n m a ≡ true → base n a ≤ q → q + 2 ≤ ringsEnd n a
@@ -57,6 +71,91 @@ zero-word n m a q e lo hi =
     split false y e = absurd (false≢true e)
 
 -- a port that polls: nothing begun, or begun and not stepped
+-- storing 0 where 0 stands changes nothing
+set-zero : (m : Memory) (i : ℕ) → getD m i 0 ≡ 0 → set m i 0 ≡ m
+set-zero [] i e = refl
+set-zero (x ∷ xs) zero e = ap (λ (y : ℕ). y ∷ xs) (sym e)
+set-zero (x ∷ xs) (suc i) e = ap (λ (r : Memory). x ∷ r) (set-zero xs i e)
+
+word-zero : (n : ℕ) (m : Memory) (q : ℕ) → getD m q 0 ≡ 0 → getD m (q + 1) 0 ≡ 0 → withWord n m q 0 ≡ m
+unfolding withWord
+word-zero n m q e f = go (inside n m q)
+  where
+    go : (o : Bool) → cond o (set (set m q 0) (q + 1) 0) m ≡ m
+    go true = ap (λ (k : Memory). set k (q + 1) 0) (set-zero m q e) ∙ set-zero m (q + 1) f
+    go false = refl
+
+lead-least : (a : Area) → 4 ≤ lead a
+lead-least a = go (isSet pi (a .second))
+  where
+    go : (o : Bool) → 4 ≤ cond o 8 4
+    go true = omega arith
+    go false = omega arith
+
+back-most : (r : Ring) → (indicatorBack r ≤ 4) × (2 ≤ indicatorBack r)
+back-most Command = (omega arith, omega arith)
+back-most Response = (omega arith, omega arith)
+
+-- the indicators of a cleared area are 0: clearing one changes nothing
+pub zero-mark : (n : ℕ) (m : Memory) (a : Area) (r : Ring) → areaLies n m a ≡ true → left n (areaCleared n m a) (indicator n a r 0) ≡ areaCleared n m a
+unfolding areaLies areaCleared lies indicator
+zero-mark n m a r e =
+    let s = split (leb (lead a) (base n a)) (leb (base n a - lead a) (ringsEnd n a) && leb (ringsEnd n a) (usable n (length m))) e in
+    let t = split (leb (base n a - lead a) (ringsEnd n a)) (leb (ringsEnd n a) (usable n (length m))) (s .1) in
+    let l : lead a ≤ base n a = leb-true (lead a) (base n a) (s .0) in
+    let k : base n a - lead a ≤ ringsEnd n a = leb-true (base n a - lead a) (ringsEnd n a) (t .0) in
+    let v : ringsEnd n a ≤ length m = omega (arith, leb-true (ringsEnd n a) (usable n (length m)) (t .1), usable-le n (length m)) in
+    let q : ℕ = base n a - indicatorBack r in
+    let c : (j : ℕ) → base n a - lead a ≤ j → j < base n a → getD (cleared n m (base n a - lead a) (ringsEnd n a)) j 0 ≡ 0 =
+    λ j lo hi. cleared-inside n m (base n a - lead a) (ringsEnd n a) (s .1) k v j lo (omega (arith, hi)) in
+    rw (s .0, le-leb (indicatorBack r) (base n a) (omega (arith, l, lead-least a, back-most r .0)))
+    (word-zero n (cleared n m (base n a - lead a) (ringsEnd n a)) q
+    (c q (omega (arith, l, lead-least a, back-most r .0)) (omega (arith, l, lead-least a, back-most r .1)))
+    (c (q + 1) (omega (arith, l, lead-least a, back-most r .0)) (omega (arith, l, lead-least a, back-most r .1))))
+  where
+    split : (x y : Bool) → (x && y) ≡ true → (x ≡ true) × (y ≡ true)
+    split true y e = (refl, e)
+    split false y e = absurd (false≢true e)
+
+-- what the host's calls come to before the setup
+send-begun-off : (g : Host) (x : Asked) (t : List ℕ) → isReady g ≡ false → sendBegun g x t .state ≡ g
+unfolding sendBegun isReady
+send-begun-off g x t e = rw e
+
+send-off : (n : ℕ) (g : Host) (k : Memory) → isReady g ≡ false → sendStep n g k ≡ HostState.with-memory (refuseSend g 1) k
+unfolding sendStep isReady
+send-off n g k e = rw e
+
+take-begun-off : (g : Host) → isReady g ≡ false → takeBegun g .state ≡ g
+unfolding takeBegun isReady
+take-begun-off g e = rw e
+
+take-off : (n : ℕ) (g : Host) (k : Memory) → isReady g ≡ false → takeStep n g k ≡ HostState.with-memory (refuseTake g 1) k
+unfolding takeStep isReady
+take-off n g k e = rw e
+
+seen-off : (g : Host) (v : ℕ) → g .shake ≡ Finished → saSeen g v .state ≡ g
+unfolding saSeen
+seen-off g v e = ap (λ (y : Shake). sawBy g v y .state) e
+
+late-off : (g : Host) → g .shake ≡ Finished → timeUp g .state ≡ g
+unfolding timeUp
+late-off g e = ap (λ (y : Shake). lateBy g y .state) e
+
+clear-state : (g : Host) (k : Memory) (w : Word) → clearedBy g k w ≡ record { told = clearedBy g k w .told; state = g; memory = k }
+clear-state g k Outside = refl
+clear-state g k (Value v) = refl
+
+clear-off : (n : ℕ) (g : Host) (r : Ring) (k : Memory) → g .shake ≡ Finished
+    → indicatorCleared n g r k ≡ clearedBy g (left n k (indicator n (g .area) r 0)) (found n k (indicator n (g .area) r 0))
+unfolding indicatorCleared
+clear-off n g r k e =
+    ap (λ (y : Shake). cond (HostState.isFinished y) (clearedBy g (left n k (indicator n (g .area) r 0)) (found n k (indicator n (g .area) r 0))) (denied g 1 k)) e
+
+write-off : (n : ℕ) (p : Port) (a : Area) (go v : ℕ) (k : Memory) → p .phase ≡ Running a go → saWritten n p v k ≡ PortState.with-memory (ignored p) k
+unfolding saWritten
+write-off n p a go v k e = ap (λ (y : Phase). heard n p v k y) e
+
 abbrev pub PollFetch : Port → Fetcher → Type 0
 PollFetch p NoFetch = Unit {0}
 PollFetch p (Fetching S.High c) = (c .slot ≡ 0) × (p .incoming ≡ zeros)
@@ -125,7 +224,27 @@ begun-post : (p : Port) (q : Poster) (k : Bool) (t : List ℕ) (a : Area) (go : 
 unfolding postBegun
 begun-post p q k t a go r = rw r
 
-module _ (n : ℕ) (a : Area) (made : Made) (m : Memory) (h : Host) (zero-high : (r : Ring) → found n m (Read (slotAt n a r 0 + 2)) ≡ Value 0) where
+module _ (n : ℕ) (a : Area) (made : Made) (m : Memory) (zero-high : (r : Ring) → found n m (Read (slotAt n a r 0 + 2)) ≡ Value 0)
+    (zero-marks : (r : Ring) → left n m (indicator n a r 0) ≡ m) where
+  -- a host that has finished its handshake and had no setup
+  abbrev h : Host
+  h = HostState.fresh Finished a
+
+  -- the same host and memory
+  host-by : (w : World) (g : Host) → g ≡ w .host → Polling a made m h w → Polling a made m h (world g (w .port) (w .memory))
+  host-by w g e I = subst (λ (z : Host). Polling a made m h (world z (w .port) (w .memory))) (sym e) I
+
+  not-ready : (w : World) → Polling a made m h w → isReady (w .host) ≡ false
+  unfolding isReady
+  not-ready w I = ap isReady (I .host)
+
+  shaken : (w : World) → Polling a made m h w → w .host .shake ≡ Finished
+  shaken w I = ap (λ (z : Host). z .shake) (I .host)
+
+  unmarked : (r : Ring) (w : World) → Polling a made m h w → left n (w .memory) (indicator n (w .host .area) r 0) ≡ w .memory
+  unmarked r w I =
+      ap (λ (k : Memory). left n k (indicator n (w .host .area) r 0)) (I .memory) ∙ ap (λ (z : Host). left n m (indicator n (z .area) r 0)) (I .host) ∙ zero-marks r ∙ sym (I .memory)
+
   -- the same port but for its sides
   kept-by : (w : World) (p′ : Port) → p′ .phase ≡ w .port .phase → p′ .made ≡ w .port .made → p′ .counts ≡ w .port .counts → (I : Polling a made m h w)
       → PollFetch p′ (p′ .fetcher) → (t : List ℕ) → PollPost p′ t (p′ .poster) → Polling a made m h (world (w .host) p′ (w .memory))
@@ -215,21 +334,28 @@ module _ (n : ℕ) (a : Area) (made : Made) (m : Memory) (h : Host) (zero-high :
         go (Posting s c) I = I
         go (PostTail s c) I = I
 
-  poll : (e : Ev) → Polls e → Proper e → (w : World) → Polling a made m h w → Polling a made m h (act n e w .next)
-  poll (beginSend f t) q y w I = absurd q
-  poll stepSend q y w I = absurd q
-  poll beginTake q y w I = absurd q
-  poll stepTake q y w I = absurd q
-  poll beginFetch q y w I = begin-fetch (w .host) (w .port) (w .memory) (w .port .fetcher) I
-  poll stepFetch q y w I = step-fetch (w .host) (w .port) (w .memory) (w .port .fetcher) I
-  poll (beginPost b t) q y w I = begin-post (w .host) (w .port) (w .memory) (w .port .poster) b t y I
-  poll stepPost q y w I = step-post (w .host) (w .port) (w .memory) (w .port .poster) I
-  poll (clearMark r) q y w I = absurd q
-  poll readSa q y w I = absurd q
-  poll (writeSa v) q y w I = absurd q
-  poll (showSa v) q y w I = absurd q
-  poll timeIsUp q y w I = absurd q
+  poll : (e : Ev) → Proper e → (w : World) → Polling a made m h w → Polling a made m h (act n e w .next)
+  poll (beginSend f t) y w I = host-by w (sendBegun (w .host) (record { flag = f }) t .state) (send-begun-off (w .host) (record { flag = f }) t (not-ready w I)) I
+  poll stepSend y w I =
+      subst (λ (o : HostState.Outcome). Polling a made m h (world (o .state) (w .port) (o .memory))) (sym (send-off n (w .host) (w .memory) (not-ready w I)))
+      (host-by w (HostState.withSender (w .host) NoSend) (ap (λ (z : Host). HostState.withSender z NoSend) (I .host) ∙ sym (I .host)) I)
+  poll beginTake y w I = host-by w (takeBegun (w .host) .state) (take-begun-off (w .host) (not-ready w I)) I
+  poll stepTake y w I =
+      subst (λ (o : HostState.Outcome). Polling a made m h (world (o .state) (w .port) (o .memory))) (sym (take-off n (w .host) (w .memory) (not-ready w I)))
+      (host-by w (HostState.withTaker (w .host) NoTake) (ap (λ (z : Host). HostState.withTaker z NoTake) (I .host) ∙ sym (I .host)) I)
+  poll beginFetch y w I = begin-fetch (w .host) (w .port) (w .memory) (w .port .fetcher) I
+  poll stepFetch y w I = step-fetch (w .host) (w .port) (w .memory) (w .port .fetcher) I
+  poll (beginPost b t) y w I = begin-post (w .host) (w .port) (w .memory) (w .port .poster) b t y I
+  poll stepPost y w I = step-post (w .host) (w .port) (w .memory) (w .port .poster) I
+  poll (clearMark r) y w I =
+      subst (λ (o : HostState.Outcome). Polling a made m h (world (o .state) (w .port) (o .memory))) (sym (clear-off n (w .host) r (w .memory) (shaken w I) ∙ clear-state (w .host) (left n (w .memory) (indicator n (w .host .area) r 0)) (found n (w .memory) (indicator n (w .host .area) r 0))))
+      (subst (λ (k : Memory). Polling a made m h (world (w .host) (w .port) k)) (sym (unmarked r w I)) I)
+  poll readSa y w I = I
+  poll (writeSa v) y w I =
+      subst (λ (o : PortState.Outcome). Polling a made m h (world (w .host) (o .state) (o .memory))) (sym (write-off n (w .port) a goWord v (w .memory) (I .phase))) I
+  poll (showSa v) y w I = host-by w (saSeen (w .host) v .state) (seen-off (w .host) v (shaken w I)) I
+  poll timeIsUp y w I = host-by w (timeUp (w .host) .state) (late-off (w .host) (shaken w I)) I
 
-  pub poll-all : (ps : List Ev) → AllPoll ps → AllProper ps → (w : World) → Polling a made m h w → Polling a made m h (final (act n) ps w)
-  poll-all [] q y w I = I
-  poll-all (e ∷ ps) q y w I = poll-all ps (q .1) (y .1) (act n e w .next) (poll e (q .0) (y .0) w I)
+  pub poll-all : (ps : List Ev) → AllProper ps → (w : World) → Polling a made m h w → Polling a made m h (final (act n) ps w)
+  poll-all [] y w I = I
+  poll-all (e ∷ ps) y w I = poll-all ps (y .1) (act n e w .next) (poll e (y .0) w I)

@@ -40,17 +40,17 @@ use Rattle.host.specs.declared.state.Taker.{Taker}
 use Rattle.host.specs.declared.state.Taker.the-variants.{NoTake, Taking}
 use Rattle.host.specs.declared.state.TakeStage.the-variants as T
 use Rattle.host.specs.declared.state.Host.{Host}
-use Rattle.meeting.specs.Meeting.{Pair}
-use Rattle.meeting.proofs.Meet.{every-meeting}
+use Rattle.meeting.specs.Meeting.{Pair, opened, Sight, seesAll, Came}
+use Rattle.meeting.proofs.Ways.{every-way}
 use Rattle.traffic.specs.Places.{Site, view}
 use Rattle.traffic.specs.Rings.{Letter, blank, RingInv}
 use Rattle.traffic.specs.World.{World, world, Ev, act, final}
 use Rattle.traffic.specs.Play.{idle, Play, game}
 use Rattle.traffic.specs.Invariant.{Past, FetchInv, PostInv, wholeFrom, Inv, Setting, fetchJob, postJob, plainOf, playOf, TakeInv, nextResponse}
-use Rattle.traffic.specs.Traffic.{met, polled, started, Start, boundsOf, siteOf, history, Promise, AtStart, EveryRun}
+use Rattle.traffic.specs.Traffic.{met, early, started, Start, boundsOf, siteOf, history, Promise, AtStart, EveryRun}
 use Rattle.traffic.proofs.SetupLaws.{Picture, picture}
 use Rattle.traffic.proofs.FirstRings.{first-ring}
-use Rattle.traffic.proofs.Begin.{zero-word, PollFetch, PollPost, Polling, poll-all}
+use Rattle.traffic.proofs.Begin.{zero-word, zero-mark, PollFetch, PollPost, Polling, poll-all}
 use Rattle.traffic.proofs.Sim.{FetchSteps, PostSteps}
 use Rattle.traffic.proofs.Run.{Whole, whole}
 
@@ -182,33 +182,37 @@ none-posted p t (Posting S.Text c) P = absurd P
 none-posted p t (Posting S.Release c) P = absurd P
 none-posted p t (PostTail s c) P = tt
 
-module _ (b : Beginning) (x : Pair) (ps : List Ev) (pool : ℕ) (St : Start b x ps pool) where
+module _ (b : Beginning) (x : Pair) (vs : List Sight) (ps : List Ev) (pool : ℕ) (St : Start b x vs ps pool) where
   a : Area
   a = areaOf b
 
   -- after the handshake
+  came : Came b x (seesAll vs (opened b x))
+  came = every-way b x vs (St .settings) (St .area-in) (St .finished)
+
   slot-in : (r : Ring) → (base addressBits (areaOf b) ≤ slotAt addressBits (areaOf b) r 0 + 2) × (slotAt addressBits (areaOf b) r 0 + 2 + 2 ≤ ringsEnd addressBits (areaOf b))
   unfolding slotAt
   slot-in r = (omega arith, omega (arith, number-lt (areaOf b) r 0 (slots-some (areaOf b) r)))
 
-  polls : Polling (areaOf b) (x .port .made) (areaCleared addressBits (x .memory) (areaOf b)) (HostState.fresh Finished (areaOf b)) (polled b x ps)
+  polls : Polling (areaOf b) (x .port .made) (areaCleared addressBits (came .before) (areaOf b)) (HostState.fresh Finished (areaOf b)) (early b x vs ps)
   polls =
-      poll-all addressBits (areaOf b) (x .port .made) (areaCleared addressBits (x .memory) (areaOf b)) (HostState.fresh Finished (areaOf b))
-      (λ r. zero-word addressBits (x .memory) (areaOf b) (slotAt addressBits (areaOf b) r 0 + 2) (St .area-in) (slot-in r .0) (slot-in r .1))
-      ps (St .polls) (St .bytes) (met b x)
-      (subst (λ (y : Pair). Polling (areaOf b) (x .port .made) (areaCleared addressBits (x .memory) (areaOf b)) (HostState.fresh Finished (areaOf b)) (world (y .host) (y .port) (y .memory)))
-      (sym (every-meeting b x (St .settings) (St .area-in) .meet))
+      poll-all addressBits (areaOf b) (x .port .made) (areaCleared addressBits (came .before) (areaOf b))
+      (λ r. zero-word addressBits (came .before) (areaOf b) (slotAt addressBits (areaOf b) r 0 + 2) (came .inside) (slot-in r .0) (slot-in r .1))
+      (λ r. zero-mark addressBits (came .before) (areaOf b) r (came .inside))
+      ps (St .bytes) (met b x vs)
+      (subst (λ (y : Pair). Polling (areaOf b) (x .port .made) (areaCleared addressBits (came .before) (areaOf b)) (HostState.fresh Finished (areaOf b)) (world (y .host) (y .port) (y .memory)))
+      (sym (came .runs))
       record { host = refl; memory = refl; phase = refl; made-is = refl; counts = refl; fetch = tt; text = []; post = tt })
 
   before : Memory
-  before = polled b x ps .memory
+  before = early b x vs ps .memory
 
   end : ℕ
   end = usable addressBits (length before)
 
   fit : fits addressBits (areaOf b) pool end ≡ true
   unfolding end before
-  fit = setup-fits addressBits (areaOf b) pool (polled b x ps .memory) (subst (λ (y : Host). setUpBy addressBits y pool (polled b x ps .memory) .told ≡ told done false) (polls .host) (St .setup))
+  fit = setup-fits addressBits (areaOf b) pool (early b x vs ps .memory) (subst (λ (y : Host). setUpBy addressBits y pool (early b x vs ps .memory) .told ≡ told done false) (polls .host) (St .setup))
 
   F : AreaFacts addressBits (areaOf b) pool end
   F = every-layout .area addressBits (areaOf b) pool end fit
@@ -228,23 +232,23 @@ module _ (b : Beginning) (x : Pair) (ps : List Ev) (pool : ℕ) (St : Start b x 
         facts = F;
         wide = omega arith;
         narrow = omega arith;
-        end-low = usable-end addressBits (length (polled b x ps .memory));
+        end-low = usable-end addressBits (length (early b x vs ps .memory));
         few = St .most;
         command-slots = refl;
         response-slots = refl;
       }
 
-  is-started : started b x ps pool ≡ world (readied (HostState.fresh Finished (areaOf b)) pool) (polled b x ps .port) (setUp addressBits (areaOf b) pool before)
+  is-started : started b x vs ps pool ≡ world (readied (HostState.fresh Finished (areaOf b)) pool) (early b x vs ps .port) (setUp addressBits (areaOf b) pool before)
   unfolding before end
   is-started =
-      ap (λ (o : HostState.Outcome). world (o .state) (polled b x ps .port) (o .memory))
-      (ap (λ (y : Host). setUpBy addressBits y pool (polled b x ps .memory)) (polls .host) ∙ setup-is addressBits (areaOf b) pool (polled b x ps .memory) fit)
+      ap (λ (o : HostState.Outcome). world (o .state) (early b x vs ps .port) (o .memory))
+      (ap (λ (y : Host). setUpBy addressBits y pool (early b x vs ps .memory)) (polls .host) ∙ setup-is addressBits (areaOf b) pool (early b x vs ps .memory) fit)
 
   first : Past
   first = record { sent = []; fetched = 0; posted = []; taken = 0; sending = []; posting = polls .text; holding = [] }
 
   now : World
-  now = world (readied (HostState.fresh Finished (areaOf b)) pool) (polled b x ps .port) (setUp addressBits (areaOf b) pool before)
+  now = world (readied (HostState.fresh Finished (areaOf b)) pool) (early b x vs ps .port) (setUp addressBits (areaOf b) pool before)
 
   shown : Picture addressBits (areaOf b) pool end F rings-in pool-in (slotCount (areaOf b)) (setUp addressBits (areaOf b) pool before)
   unfolding end
@@ -272,8 +276,8 @@ module _ (b : Beginning) (x : Pair) (ps : List Ev) (pool : ℕ) (St : Start b x 
         responses = subst (λ (k : ℕ). RingInv (siteOf b pool) (view (siteOf b pool) (setUp addressBits (areaOf b) pool before)) Response k 0 [] 0 0) (sym (ap (λ y. y .post) (polls .counts))) (ring Response);
         send = tt;
         take = tt;
-        fetch = polls-fetch (siteOf b pool) (polled b x ps .port) (record { sent = []; fetched = 0; posted = []; taken = 0; sending = []; posting = polls .text; holding = [] }) (polled b x ps .port .fetcher) (ap (λ y. y .fetch) (polls .counts)) (polls .fetch);
-        post = polls-post (siteOf b pool) (view (siteOf b pool) (setUp addressBits (areaOf b) pool before)) (polled b x ps .port) (record { sent = []; fetched = 0; posted = []; taken = 0; sending = []; posting = polls .text; holding = [] }) (polled b x ps .port .poster) (ap (λ y. y .post) (polls .counts)) (polls .post);
+        fetch = polls-fetch (siteOf b pool) (early b x vs ps .port) (record { sent = []; fetched = 0; posted = []; taken = 0; sending = []; posting = polls .text; holding = [] }) (early b x vs ps .port .fetcher) (ap (λ y. y .fetch) (polls .counts)) (polls .fetch);
+        post = polls-post (siteOf b pool) (view (siteOf b pool) (setUp addressBits (areaOf b) pool before)) (early b x vs ps .port) (record { sent = []; fetched = 0; posted = []; taken = 0; sending = []; posting = polls .text; holding = [] }) (early b x vs ps .port .poster) (ap (λ y. y .post) (polls .counts)) (polls .post);
         sum = omega (arith, St .some, ap (λ y. y .unanswered) (polls .counts), ap (λ y. y .owed) (polls .counts));
       }
 
@@ -282,22 +286,22 @@ module _ (b : Beginning) (x : Pair) (ps : List Ev) (pool : ℕ) (St : Start b x 
   plain-is =
       λ i. record { commands = []; responses = []; account = 1; unanswered = polls .counts i .unanswered; owed = polls .counts i .owed }
 
-  at-start : AtStart b x ps pool
+  at-start : AtStart b x vs ps pool
   unfolding now first
   at-start =
       record {
-        fetcher = fetchJob [] (polled b x ps .port .fetcher);
-        poster = postJob (polls .text) (polled b x ps .port .poster);
+        fetcher = fetchJob [] (early b x vs ps .port .fetcher);
+        poster = postJob (polls .text) (early b x vs ps .port .poster);
         unpolled = λ e. (
-          ap (λ (qs : List Ev). fetchJob [] (polled b x qs .port .fetcher)) e ∙ ap (λ (y : Pair). fetchJob [] (y .port .fetcher)) (every-meeting b x (St .settings) (St .area-in) .meet),
-          ap (λ (qs : List Ev). postJob (polls .text) (polled b x qs .port .poster)) e ∙ ap (λ (y : Pair). postJob (polls .text) (y .port .poster)) (every-meeting b x (St .settings) (St .area-in) .meet),
+          ap (λ (qs : List Ev). fetchJob [] (early b x vs qs .port .fetcher)) e ∙ ap (λ (y : Pair). fetchJob [] (y .port .fetcher)) (came .runs),
+          ap (λ (qs : List Ev). postJob (polls .text) (early b x vs qs .port .poster)) e ∙ ap (λ (y : Pair). postJob (polls .text) (y .port .poster)) (came .runs),
         );
         promise = λ es y.
-            subst (λ (w : World). Promise (act addressBits) (siteOf b pool) (boundsOf b x) es w (game (start (boundsOf b x)) idle idle (fetchJob [] (polled b x ps .port .fetcher)) (postJob (polls .text) (polled b x ps .port .poster)))) (sym is-started)
-            (subst (λ (s : Plain). Promise (act addressBits) (siteOf b pool) (boundsOf b x) es now (game s idle idle (fetchJob [] (polled b x ps .port .fetcher)) (postJob (polls .text) (polled b x ps .port .poster)))) plain-is
-            (promised b pool end (boundsOf b x) setting (St .some) es now first (whole (siteOf b pool) end (boundsOf b x) setting es y now first inv 0 0 (none-fetched (polled b x ps .port) (polled b x ps .port .fetcher) (polls .fetch)) (none-posted (polled b x ps .port) (polls .text) (polled b x ps .port .poster) (polls .post)))
+            subst (λ (w : World). Promise (act addressBits) (siteOf b pool) (boundsOf b x) es w (game (start (boundsOf b x)) idle idle (fetchJob [] (early b x vs ps .port .fetcher)) (postJob (polls .text) (early b x vs ps .port .poster)))) (sym is-started)
+            (subst (λ (s : Plain). Promise (act addressBits) (siteOf b pool) (boundsOf b x) es now (game s idle idle (fetchJob [] (early b x vs ps .port .fetcher)) (postJob (polls .text) (early b x vs ps .port .poster)))) plain-is
+            (promised b pool end (boundsOf b x) setting (St .some) es now first (whole (siteOf b pool) end (boundsOf b x) setting es y now first inv 0 0 (none-fetched (early b x vs ps .port) (early b x vs ps .port .fetcher) (polls .fetch)) (none-posted (early b x vs ps .port) (polls .text) (early b x vs ps .port .poster) (polls .post)))
             (subst (λ (s : Plain). Ran (boundsOf b x) nothing s) (sym plain-is) begin)));
       }
 
 pub every-run : EveryRun
-every-run b x ps pool St = at-start b x ps pool St
+every-run b x vs ps pool St = at-start b x vs ps pool St

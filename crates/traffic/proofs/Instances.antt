@@ -22,6 +22,7 @@ use Rattle.host.specs.Take.{takeTouch, takeLook, takeOn, takeHeader, takeText, 
 use Rattle.meeting.specs.Meeting.{opened, exchange, exchanges}
 use Rattle.meeting.specs.Meeting.{Pair}
 use Rattle.meeting.proofs.Meet.{every-meeting}
+use Rattle.meeting.proofs.Ways.{honest-is}
 use Rattle.answers.specs.Told.{told, done}
 use Rattle.words.specs.Words.{addressBits}
 use Rattle.memory.specs.Memory.{Memory}
@@ -88,9 +89,9 @@ every-pair c r i v x hc hr hv e l u =
       area-in = k;
       some = l;
       most = u;
-      polls = tt;
       bytes = tt;
+      finished = ap (λ (y : Pair). y .host .shake) (honest-is 4 (opened (settings c r i v) x) ∙ every-meeting (settings c r i v) x s k .meet);
       setup =
-          subst (λ (y : Pair). setUpBy addressBits (y .host) 2048 (y .memory) .told ≡ told done false) (sym (every-meeting (settings c r i v) x s k .meet))
+          subst (λ (y : Pair). setUpBy addressBits (y .host) 2048 (y .memory) .told ≡ told done false) (sym (honest-is 4 (opened (settings c r i v) x) ∙ every-meeting (settings c r i v) x s k .meet))
           (set-up c r i v (areaCleared addressBits (x .memory) (areaOf (settings c r i v))) (cleared-size c r i v (x .memory) e));
     }

@@ -21,14 +21,14 @@ use Rattle.host.specs.Take.{takeTouch, takeLook, takeOn, takeHeader, takeText, 
 use Rattle.meeting.specs.Meeting.{opened, exchange, exchanges}
 use Rattle.plain.specs.Plain.{full, send, fetch, post, take}
 use Rattle.traffic.specs.World.{Ans}
-use Rattle.traffic.specs.Instance.{smallSettings, small, shown}
+use Rattle.traffic.specs.Instance.{smallSettings, small, smallWay, shown}
 use Rattle.traffic.specs.Traffic.{Start}
 use Rattle.traffic.specs.ShutOut.{Keeps, sendingBy, fetchingBy, postingBy, betweenTheWords, whileWriting, whileReading, sendNone, onceAround, ShutOut}
 use Rattle.traffic.specs.Errors.{highWordFirst, fetchedUnlooked, returnedUnread, fifteenEach, accountKept, owedKept}
 
-small-start : Start smallSettings small [] 64
+small-start : Start smallSettings small smallWay [] 64
 unfolding zeros byteAt withByte wordOf withText padded usable lies inside wordAt withWord cleared faultOf carriedOf leftOf slots base slotAt nextOf beforeOf alone indicator envelopeAt hasVector stepInterrupt areaLies areaCleared fits slotSet slotsSet setUp created saOf firstHeard saWritten tailStart tailTouch tailAfter fetchTouch fetchHigh fetchLow fetchOn fetchHeader fetchText fetched fetchRelease fetchAfter fetchTailed fetchStep fetchBegun creditsOf postTouch postHigh postLow postOn posted postRelease postAfter postTailed postStep postBegun isReady accepts begun expecting saSeen setUpBy sendTouch sendLook sendOn sent sendAfter sendStep sendBegun takeTouch takeLook takeOn takeHeader takeText taken takeClosed takeAfter takeStep takeBegun opened exchange exchanges full send fetch post take
-small-start = record { settings = refl; area-in = refl; some = omega arith; most = omega arith; polls = tt; bytes = tt; setup = refl }
+small-start = record { settings = refl; area-in = refl; some = omega arith; most = omega arith; finished = refl; bytes = tt; setup = refl }
 
 high-word-first : Keeps (sendingBy highWordFirst) betweenTheWords → ⊥
 unfolding zeros byteAt withByte wordOf withText padded usable lies inside wordAt withWord cleared faultOf carriedOf leftOf slots base slotAt nextOf beforeOf alone indicator envelopeAt hasVector stepInterrupt areaLies areaCleared fits slotSet slotsSet setUp created saOf firstHeard saWritten tailStart tailTouch tailAfter fetchTouch fetchHigh fetchLow fetchOn fetchHeader fetchText fetched fetchRelease fetchAfter fetchTailed fetchStep fetchBegun creditsOf postTouch postHigh postLow postOn posted postRelease postAfter postTailed postStep postBegun isReady accepts begun expecting saSeen setUpBy sendTouch sendLook sendOn sent sendAfter sendStep sendBegun takeTouch takeLook takeOn takeHeader takeText taken takeClosed takeAfter takeStep takeBegun opened exchange exchanges full send fetch post take

@@ -9,7 +9,7 @@ use Rattle.answers.specs.Told as Told
 use Rattle.port.specs.Shake.{created}
 use Rattle.host.specs.Shake.{newHost}
 use Rattle.host.specs.declared.state.Beginning.{Beginning}
-use Rattle.meeting.specs.Meeting.{Pair, pair}
+use Rattle.meeting.specs.Meeting.{Pair, pair, opened, Sight, honest}
 use Rattle.traffic.specs.World.{World, Ev, beginSend, stepSend, beginTake, stepTake, beginFetch, stepFetch, beginPost, stepPost, Ans, call, act, answers}
 use Rattle.traffic.specs.Traffic.{started, Start}
 
@@ -20,7 +20,7 @@ settings c r i v = record { command = c; response = r; interrupts = i; vector = 
 abbrev pub EveryPair : Type 0
 EveryPair =
     (c r : ℕ) (i : Bool) (v : ℕ) (x : Pair) → c ≤ 7 → r ≤ 7 → v ≤ 127 → length (x .memory) ≡ 32768 → 1 ≤ x .port .made .limit → x .port .made .limit ≤ 64
-    → Start (settings c r i v) x [] 2048
+    → Start (settings c r i v) x (honest 4 (opened (settings c r i v) x)) [] 2048
 
 -- Rings of one slot over 256 bytes, limit 2.
 abbrev pub small : Pair
@@ -28,6 +28,13 @@ small = pair newHost (created (record { nv = false; qb = false; di = false; vers
 
 abbrev pub smallSettings : Beginning
 smallSettings = record { command = 0; response = 0; interrupts = false; vector = 0; base = 8 }
+
+-- After the handshake and the setup.
+abbrev pub smallWay : List Sight
+smallWay = honest 4 (opened smallSettings small)
+
+abbrev pub smallStart : World
+smallStart = started smallSettings small smallWay [] 64
 
 -- A step's numbers: the refusal, 100 for done, 200 for going.
 abbrev pub numberOf : Told.Closing → ℕ
@@ -59,7 +66,7 @@ calls =
 
 abbrev pub MixedRun : Type 0
 MixedRun =
-    shown (answers (act addressBits) calls (started smallSettings small [] 64))
+    shown (answers (act addressBits) calls smallStart)
     ≡ 200
     ∷ 200 ∷ 200 ∷ 200 ∷ 200 ∷ 7 ∷ 200 ∷ 200 ∷ 100
     ∷ 200 ∷ 5

@@ -12,8 +12,8 @@ use Rattle.host.specs.State as HostState
 use Rattle.host.specs.declared.state.Host.{Host}
 use Rattle.traffic.specs.World.{Ev, beginSend, stepSend, beginTake, stepTake, beginFetch, stepFetch, beginPost, stepPost, Halves, ours, actBy}
 use Rattle.traffic.specs.Play.{idle, game}
-use Rattle.traffic.specs.Traffic.{started, Start, boundsOf, siteOf, Promise}
-use Rattle.traffic.specs.Instance.{smallSettings, small}
+use Rattle.traffic.specs.Traffic.{Start, boundsOf, siteOf, Promise}
+use Rattle.traffic.specs.Instance.{smallSettings, small, smallWay, smallStart}
 use Rattle.traffic.specs.Errors.{highWordFirst, fetchedUnlooked, returnedUnread, fifteenEach, accountKept, owedKept}
 
 -- Our halves with another send, fetch or post.
@@ -31,7 +31,7 @@ abbrev pub bounds : Bounds
 bounds = boundsOf smallSettings small
 
 abbrev pub Keeps : Halves → List Ev → Type 0
-Keeps f es = Promise f (siteOf smallSettings 64) bounds es (started smallSettings small [] 64) (game (start bounds) idle idle idle idle)
+Keeps f es = Promise f (siteOf smallSettings 64) bounds es smallStart (game (start bounds) idle idle idle idle)
 
 -- A send of a text of one byte has six steps, of none five; so have a fetch and a take; a post has one more, for the indicator.
 abbrev pub sendOne : ℕ → List Ev
@@ -70,7 +70,7 @@ onceAround = sendNone ++ fetchNone ++ answerNone ++ takeNone
 
 -- The small start is one of those that the theorem is about, so halves that break the promise there have no such theorem.
 pub record ShutOut : Type 0 where
-  pub starts : Start smallSettings small [] 64
+  pub starts : Start smallSettings small smallWay [] 64
   pub high-word-first : Keeps (sendingBy highWordFirst) betweenTheWords → ⊥
   pub fetched-unlooked : Keeps (fetchingBy fetchedUnlooked) whileWriting → ⊥
   pub returned-unread : Keeps (fetchingBy returnedUnread) whileReading → ⊥

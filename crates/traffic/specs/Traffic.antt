@@ -17,12 +17,13 @@ use Rattle.host.specs.Shake.{accepts, areaOf}
 use Rattle.host.specs.Setup.{setUpBy}
 use Rattle.host.specs.declared.state.Beginning.{Beginning}
 use Rattle.host.specs.declared.state.Cursor.{Cursor}
+use Rattle.host.specs.declared.state.Shake.the-variants.{Finished}
 use Rattle.host.specs.declared.state.TakeStage.the-variants.{Give}
 use Rattle.host.specs.declared.state.Taker.the-variants.{Taking}
-use Rattle.meeting.specs.Meeting.{Pair, exchanges, opened}
+use Rattle.meeting.specs.Meeting.{Pair, opened, Sight, seesAll}
 use Rattle.traffic.specs.Places.{Site, view}
 use Rattle.traffic.specs.Rings.{Letter, blank}
-use Rattle.traffic.specs.World.{World, world, Ev, beginSend, stepSend, beginTake, stepTake, beginFetch, stepFetch, beginPost, stepPost, clearMark, readSa, writeSa, showSa, timeIsUp, Proper, Ans, call, word, asked, act, Halves, answers, final}
+use Rattle.traffic.specs.World.{World, world, Ev, Proper, Ans, call, word, asked, act, Halves, answers, final}
 use Rattle.traffic.specs.Play.{Job, idle, Moment, Play, game, plays, ends, logs}
 use Rattle.traffic.specs.Watch.{watch, momentsOf}
 use Rattle.traffic.specs.Invariant.{wholeFrom}
@@ -32,47 +33,28 @@ abbrev pub AllProper : List Ev → Type 0
 AllProper [] = Unit {0}
 AllProper (e ∷ es) = Proper e × AllProper es
 
--- What a port may do between GO and the setup: it finds a ring of zeros, and nothing to fetch or to post into.
-abbrev pub Polls : Ev → Type 0
-Polls (beginSend f t) = ⊥
-Polls stepSend = ⊥
-Polls beginTake = ⊥
-Polls stepTake = ⊥
-Polls beginFetch = Unit {0}
-Polls stepFetch = Unit {0}
-Polls (beginPost a t) = Unit {0}
-Polls stepPost = Unit {0}
-Polls (clearMark r) = ⊥
-Polls readSa = ⊥
-Polls (writeSa w) = ⊥
-Polls (showSa w) = ⊥
-Polls timeIsUp = ⊥
+-- The handshake by the halves' own calls, from any host and any port over any memory, whatever the host meets with on its way; any
+-- calls between GO and the setup, where the rings are zeros; the setup.
+abbrev pub met : Beginning → Pair → List Sight → World
+met b x vs = world (seesAll vs (opened b x) .host) (seesAll vs (opened b x) .port) (seesAll vs (opened b x) .memory)
 
-abbrev pub AllPoll : List Ev → Type 0
-AllPoll [] = Unit {0}
-AllPoll (e ∷ es) = Polls e × AllPoll es
+abbrev pub early : Beginning → Pair → List Sight → List Ev → World
+early b x vs ps = final (act addressBits) ps (met b x vs)
 
--- The handshake by the halves' own calls, from any host and any port over any memory; what the port polls; the setup.
-abbrev pub met : Beginning → Pair → World
-met b x = world (exchanges 4 (opened b x) .host) (exchanges 4 (opened b x) .port) (exchanges 4 (opened b x) .memory)
+abbrev pub started : Beginning → Pair → List Sight → List Ev → ℕ → World
+started b x vs ps pool =
+    world (setUpBy addressBits (early b x vs ps .host) pool (early b x vs ps .memory) .state) (early b x vs ps .port)
+    (setUpBy addressBits (early b x vs ps .host) pool (early b x vs ps .memory) .memory)
 
-abbrev pub polled : Beginning → Pair → List Ev → World
-polled b x ps = final (act addressBits) ps (met b x)
-
-abbrev pub started : Beginning → Pair → List Ev → ℕ → World
-started b x ps pool =
-    world (setUpBy addressBits (polled b x ps .host) pool (polled b x ps .memory) .state) (polled b x ps .port)
-    (setUpBy addressBits (polled b x ps .host) pool (polled b x ps .memory) .memory)
-
--- A start: good settings, an area that lies in memory, a limit of 1 to 64, an accepted setup.
-pub record Start (b : Beginning) (x : Pair) (ps : List Ev) (pool : ℕ) : Type 0 where
+-- A start: good settings, an area that lies in memory, a limit of 1 to 64, a handshake that the host has finished, an accepted setup.
+pub record Start (b : Beginning) (x : Pair) (vs : List Sight) (ps : List Ev) (pool : ℕ) : Type 0 where
   pub settings : accepts addressBits b ≡ true
   pub area-in : areaLies addressBits (x .memory) (areaOf b) ≡ true
   pub some : 1 ≤ x .port .made .limit
   pub most : x .port .made .limit ≤ 64
-  pub polls : AllPoll ps
+  pub finished : seesAll vs (opened b x) .host .shake ≡ Finished
   pub bytes : AllProper ps
-  pub setup : setUpBy addressBits (polled b x ps .host) pool (polled b x ps .memory) .told ≡ told done false
+  pub setup : setUpBy addressBits (early b x vs ps .host) pool (early b x vs ps .memory) .told ≡ told done false
 
 -- Queues as long as the rings, and the board's limit.
 abbrev pub boundsOf : Beginning → Pair → Bounds
@@ -133,12 +115,12 @@ pub record Promise (f : Halves) (g : Site) (b : Bounds) (es : List Ev) (w : Worl
   pub calm : AllCalm (answers f es w)
 
 -- The plain machine at the start: empty, with what the port has begun and not stepped since it last polled.
-pub record AtStart (b : Beginning) (x : Pair) (ps : List Ev) (pool : ℕ) : Type 0 where
+pub record AtStart (b : Beginning) (x : Pair) (vs : List Sight) (ps : List Ev) (pool : ℕ) : Type 0 where
   pub fetcher : Job
   pub poster : Job
   pub unpolled : ps ≡ [] → (fetcher ≡ idle) × (poster ≡ idle)
   pub promise : (es : List Ev) → AllProper es
-      → Promise (act addressBits) (siteOf b pool) (boundsOf b x) es (started b x ps pool) (game (start (boundsOf b x)) idle idle fetcher poster)
+      → Promise (act addressBits) (siteOf b pool) (boundsOf b x) es (started b x vs ps pool) (game (start (boundsOf b x)) idle idle fetcher poster)
 
 abbrev pub EveryRun : Type 0
-EveryRun = (b : Beginning) (x : Pair) (ps : List Ev) (pool : ℕ) → Start b x ps pool → AtStart b x ps pool
+EveryRun = (b : Beginning) (x : Pair) (vs : List Sight) (ps : List Ev) (pool : ℕ) → Start b x vs ps pool → AtStart b x vs ps pool
