@@ -126,8 +126,8 @@ module _ (input : List ℕ) (e : takes input ≡ true) where
 
     promised : Promise (act addressBits) (siteOf (settingsOf input) 2048) (bounds input m) (callsOf input m) (openingOf input m) (atRest (bounds input m))
     promised =
-        subst (λ (j : Job). Promise (act addressBits) (siteOf (settingsOf input) 2048) (bounds input m) (callsOf input m) (openingOf input m) (game (start (bounds input m)) idle idle idle j)) (at .unpolled refl .1)
-        (subst (λ (j : Job). Promise (act addressBits) (siteOf (settingsOf input) 2048) (bounds input m) (callsOf input m) (openingOf input m) (game (start (bounds input m)) idle idle j (at .poster))) (at .unpolled refl .0)
+        subst (λ (j : Job). Promise (act addressBits) (siteOf (settingsOf input) 2048) (bounds input m) (callsOf input m) (openingOf input m) (game (start (bounds input m)) idle idle idle j)) (at .nothing-early refl .1)
+        (subst (λ (j : Job). Promise (act addressBits) (siteOf (settingsOf input) 2048) (bounds input m) (callsOf input m) (openingOf input m) (game (start (bounds input m)) idle idle j (at .poster))) (at .nothing-early refl .0)
         (at .promise (callsOf input m) (bytes-proper (drop 2 input) (startedBy (commandOf input) (responseOf input) (limitOf input) m))))
 
     last : Stand

@@ -19,7 +19,7 @@ use Rattle.area.specs.declared.Ring.the-variants.{Command, Response}
 use Rattle.layout.specs.Facts.{AreaFacts}
 use Rattle.layout.proofs.Rings.{slots-some, number-lt, every-layout}
 use Rattle.plain.specs.Plain.{Entry, Bounds, Plain, start}
-use Rattle.plain.specs.Log.{nothing, Ran, begin, Good}
+use Rattle.plain.specs.Log.{nothing, Ran, begin, Good, posts}
 use Rattle.plain.proofs.InOrder.{every-run-in-order}
 use Rattle.port.specs.Shake.{saOf}
 use Rattle.port.specs.declared.state.Made.{Made}
@@ -45,9 +45,9 @@ use Rattle.meeting.proofs.Ways.{every-way}
 use Rattle.traffic.specs.Places.{Site, view}
 use Rattle.traffic.specs.Rings.{Letter, blank, RingInv}
 use Rattle.traffic.specs.World.{World, world, Ev, act, final}
-use Rattle.traffic.specs.Play.{idle, Play, game}
+use Rattle.traffic.specs.Play.{idle, Play, game, waiting}
 use Rattle.traffic.specs.Invariant.{Past, FetchInv, PostInv, wholeFrom, Inv, Setting, fetchJob, postJob, plainOf, playOf, TakeInv, nextResponse}
-use Rattle.traffic.specs.Traffic.{met, early, started, Start, boundsOf, siteOf, history, Promise, AtStart, EveryRun}
+use Rattle.traffic.specs.Traffic.{met, early, started, Start, boundsOf, siteOf, history, Promise, AtStart, EveryRun, EarlyFetch, EarlyPost}
 use Rattle.traffic.proofs.SetupLaws.{Picture, picture}
 use Rattle.traffic.proofs.FirstRings.{first-ring}
 use Rattle.traffic.proofs.Begin.{zero-word, zero-mark, PollFetch, PollPost, Polling, poll-all}
@@ -160,6 +160,22 @@ promised b pool end bs St some es w x W r =
       quiet = sa-zero (f .port) (g .area) (W .inv .agreed .go) (W .inv .agreed .port-runs);
       calm = W .calm;
     }
+
+-- what a polling port has begun, as the plain machine is asked for it
+early-fetch-is : (p : Port) (f : Fetcher) → PollFetch p f → EarlyFetch (fetchJob [] f)
+early-fetch-is p NoFetch P = tt
+early-fetch-is p (Fetching s c) P = tt
+early-fetch-is p (FetchTail s c) P = absurd P
+
+early-post-is : (p : Port) (t : List ℕ) (q : Poster) → PollPost p t q → EarlyPost (postJob t q)
+early-post-is p t NoPost P = tt
+early-post-is p t (Posting S.High c) P = subst (λ (o : Bool). EarlyPost (waiting (posts o t))) (sym (P .unsolicited)) tt
+early-post-is p t (Posting S.Low c) P = absurd P
+early-post-is p t (Posting S.Length c) P = absurd P
+early-post-is p t (Posting S.Header c) P = absurd P
+early-post-is p t (Posting S.Text c) P = absurd P
+early-post-is p t (Posting S.Release c) P = absurd P
+early-post-is p t (PostTail s c) P = absurd P
 
 -- what a polling port has begun has made no step
 none-fetched : (p : Port) (f : Fetcher) → PollFetch p f → FetchSteps 0 f
@@ -292,7 +308,9 @@ module _ (b : Beginning) (x : Pair) (vs : List Sight) (ps : List Ev) (pool : ℕ
       record {
         fetcher = fetchJob [] (early b x vs ps .port .fetcher);
         poster = postJob (polls .text) (early b x vs ps .port .poster);
-        unpolled = λ e. (
+        early-fetch = early-fetch-is (early b x vs ps .port) (early b x vs ps .port .fetcher) (polls .fetch);
+        early-post = early-post-is (early b x vs ps .port) (polls .text) (early b x vs ps .port .poster) (polls .post);
+        nothing-early = λ e. (
           ap (λ (qs : List Ev). fetchJob [] (early b x vs qs .port .fetcher)) e ∙ ap (λ (y : Pair). fetchJob [] (y .port .fetcher)) (came .runs),
           ap (λ (qs : List Ev). postJob (polls .text) (early b x vs qs .port .poster)) e ∙ ap (λ (y : Pair). postJob (polls .text) (y .port .poster)) (came .runs),
         );

@@ -11,7 +11,7 @@ use Rattle.answers.specs.Told.{Closing, going, done, refused, fatal, told}
 use Rattle.area.specs.Layout.{slots, areaLies}
 use Rattle.area.specs.declared.Ring.the-variants.{Command, Response}
 use Rattle.plain.specs.Plain.{Bounds, Plain, start}
-use Rattle.plain.specs.Log.{Log, nothing, Good}
+use Rattle.plain.specs.Log.{sends, fetches, posts, takes, Log, nothing, Good}
 use Rattle.port.specs.Shake.{saOf}
 use Rattle.host.specs.Shake.{accepts, areaOf}
 use Rattle.host.specs.Setup.{setUpBy}
@@ -24,7 +24,7 @@ use Rattle.meeting.specs.Meeting.{Pair, opened, Sight, seesAll}
 use Rattle.traffic.specs.Places.{Site, view}
 use Rattle.traffic.specs.Rings.{Letter, blank}
 use Rattle.traffic.specs.World.{World, world, Ev, Proper, Ans, call, word, asked, act, Halves, answers, final}
-use Rattle.traffic.specs.Play.{Job, idle, Moment, Play, game, plays, ends, logs}
+use Rattle.traffic.specs.Play.{Job, idle, waiting, over, Moment, Play, game, plays, ends, logs}
 use Rattle.traffic.specs.Watch.{watch, momentsOf}
 use Rattle.traffic.specs.Invariant.{wholeFrom}
 
@@ -114,11 +114,31 @@ pub record Promise (f : Halves) (g : Site) (b : Bounds) (es : List Ev) (w : Worl
   pub quiet : saOf (final f es w .port) ≡ 0
   pub calm : AllCalm (answers f es w)
 
--- The plain machine at the start: empty, with what the port has begun and not stepped since it last polled.
+-- What the port may have begun before the setup and not stepped since: a fetch, an unsolicited message. No command is open there to answer.
+abbrev pub EarlyFetch : Job → Type 0
+EarlyFetch idle = Unit {0}
+EarlyFetch (waiting (sends t)) = ⊥
+EarlyFetch (waiting fetches) = Unit {0}
+EarlyFetch (waiting (posts a t)) = ⊥
+EarlyFetch (waiting takes) = ⊥
+EarlyFetch (over c) = ⊥
+
+abbrev pub EarlyPost : Job → Type 0
+EarlyPost idle = Unit {0}
+EarlyPost (waiting (sends t)) = ⊥
+EarlyPost (waiting fetches) = ⊥
+EarlyPost (waiting (posts true t)) = ⊥
+EarlyPost (waiting (posts false t)) = Unit {0}
+EarlyPost (waiting takes) = ⊥
+EarlyPost (over c) = ⊥
+
+-- The plain machine at the start: empty, but for that; then the promise, for every list of calls.
 pub record AtStart (b : Beginning) (x : Pair) (vs : List Sight) (ps : List Ev) (pool : ℕ) : Type 0 where
   pub fetcher : Job
   pub poster : Job
-  pub unpolled : ps ≡ [] → (fetcher ≡ idle) × (poster ≡ idle)
+  pub early-fetch : EarlyFetch fetcher
+  pub early-post : EarlyPost poster
+  pub nothing-early : ps ≡ [] → (fetcher ≡ idle) × (poster ≡ idle)
   pub promise : (es : List Ev) → AllProper es
       → Promise (act addressBits) (siteOf b pool) (boundsOf b x) es (started b x vs ps pool) (game (start (boundsOf b x)) idle idle fetcher poster)
 
