@@ -6,6 +6,7 @@ use host::state::Host;
 use port::state::Port;
 use saying::part;
 
+// Each step call stands at one place, so that the compiler can put it there whole and need not hand the state over.
 // More steps than any operation has: 30 text words, and 7 besides.
 const MOST: u32 = 64;
 
@@ -39,9 +40,9 @@ fn port_end(r: port::state::Stepped, steps: u32) -> PortEnd {
     PortEnd { reply, port, steps }
 }
 
-fn step_send(begun: Host, mem: &mut [u8]) -> HostEnd {
-    let mut r = begun.step_send(mem);
-    let mut steps = 1u32;
+fn step_send(begun: host::state::Stepped, mem: &mut [u8]) -> HostEnd {
+    let mut r = begun;
+    let mut steps = 0u32;
     while steps < MOST {
         let reply = r.reply;
         let said = reply.said;
@@ -54,9 +55,9 @@ fn step_send(begun: Host, mem: &mut [u8]) -> HostEnd {
     host_end(r, steps)
 }
 
-fn step_take(begun: Host, mem: &mut [u8]) -> HostEnd {
-    let mut r = begun.step_take(mem);
-    let mut steps = 1u32;
+fn step_take(begun: host::state::Stepped, mem: &mut [u8]) -> HostEnd {
+    let mut r = begun;
+    let mut steps = 0u32;
     while steps < MOST {
         let reply = r.reply;
         let said = reply.said;
@@ -69,9 +70,9 @@ fn step_take(begun: Host, mem: &mut [u8]) -> HostEnd {
     host_end(r, steps)
 }
 
-fn step_fetch(begun: Port, mem: &mut [u8]) -> PortEnd {
-    let mut r = begun.step_fetch(mem);
-    let mut steps = 1u32;
+fn step_fetch(begun: port::state::Stepped, mem: &mut [u8]) -> PortEnd {
+    let mut r = begun;
+    let mut steps = 0u32;
     while steps < MOST {
         let reply = r.reply;
         let said = reply.said;
@@ -84,9 +85,9 @@ fn step_fetch(begun: Port, mem: &mut [u8]) -> PortEnd {
     port_end(r, steps)
 }
 
-fn step_post(begun: Port, mem: &mut [u8]) -> PortEnd {
-    let mut r = begun.step_post(mem);
-    let mut steps = 1u32;
+fn step_post(begun: port::state::Stepped, mem: &mut [u8]) -> PortEnd {
+    let mut r = begun;
+    let mut steps = 0u32;
     while steps < MOST {
         let reply = r.reply;
         let said = reply.said;
@@ -101,17 +102,17 @@ fn step_post(begun: Port, mem: &mut [u8]) -> PortEnd {
 
 pub fn send(host: Host, text: &[u8], mem: &mut [u8]) -> HostEnd {
     let r = host.begin_send(Asked { flag: false }, text);
-    step_send(r.host, mem)
+    step_send(r, mem)
 }
 
 pub fn take(host: Host, mem: &mut [u8]) -> HostEnd {
     let r = host.begin_take();
-    step_take(r.host, mem)
+    step_take(r, mem)
 }
 
 pub fn fetch(port: Port, mem: &mut [u8]) -> PortEnd {
     let r = port.begin_fetch();
-    step_fetch(r.port, mem)
+    step_fetch(r, mem)
 }
 
 // A command is answered with its own text.
@@ -119,5 +120,5 @@ pub fn answer(port: Port, command: Reply, mem: &mut [u8]) -> PortEnd {
     let bytes = command.bytes;
     let n = part::within(command.size as usize, &bytes);
     let r = port.begin_answer(&bytes[..n]);
-    step_post(r.port, mem)
+    step_post(r, mem)
 }
