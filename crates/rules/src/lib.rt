@@ -51,9 +51,9 @@ pub fn carried_of(owed: u8) -> u8
 pub fn left_of(owed: u8) -> u8
     ensures { λ r. ⌜ r ≡ leftOf owed ⌝ }
 {
-    if owed < MOST_CARRIED {
-        0
-    } else {
+    if MOST_CARRIED <= owed {
         owed - ONE_LESS
+    } else {
+        0
     }
 }
