@@ -1,6 +1,3 @@
 pub mod StateLaws
-pub mod ShakeLaws
-pub mod SetupLaws
-pub mod SendLaws
-pub mod TakeLaws
+pub mod EffectLaws
 pub mod Determined

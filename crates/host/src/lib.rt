@@ -1,7 +1,5 @@
-// The host half: its handshake, its setup, and the two sides that send commands and take responses.
+// The host half: its record, its creation, and what its calls share. The calls are the crates `handshake`, `setup`, `send` and `take`.
 // Every call is total: any word of SA, any memory, any stage gets an answer.
-pub mod send;
-pub mod setup;
-pub mod shaking;
+pub mod create;
+pub mod effect;
 pub mod state;
-pub mod take;

@@ -70,12 +70,12 @@ pub enum TakeStage {
 // Where an operation stands: its slot, that slot's high word as read, the text's length, the next text word,
 // the flag of a send, and the credits of a take.
 pub struct Cursor {
-    pub slot: u8,
     pub high: u16,
     pub size: u16,
     pub at: u16,
-    pub flag: bool,
+    pub slot: u8,
     pub credits: u8,
+    pub flag: bool,
 }
 
 pub enum Sender {

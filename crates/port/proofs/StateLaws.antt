@@ -1,10 +1,12 @@
 -- What a call leaves, from what its callees left: an answer with no text, a side's end, one touch of memory.
 -- One law for each form that the code takes, whichever side it serves. Assumes nothing.
-use Prim.Native.Nat.{ℕ, _-_}
+use Prim.Native.Nat.{ℕ, _-_, _<_, _≤_}
 use mathlib.Core.Path.{_≡_, refl, sym, ap, _∙_}
-use mathlib.Core.Bool.{Bool, true, false, cond}
+use mathlib.Core.Bool.{Bool, true, false, cond, _&&_}
 use mathlib.Core.List.{List}
+use lib.Dec.{leb}
 use lib.ListN.{length}
+use borrow.Author.Tests.{le-leb, lt-leb}
 use Rattle.texts.specs.Texts.{zeros}
 use Rattle.memory.specs.Memory.{Memory, usable}
 use Rattle.memory.specs.OneWord.{found, left}
@@ -108,3 +110,14 @@ pub touch-is : (n : ℕ) (m : Memory) (f : ℕ → Word → Next) {end : ℕ} {t
     → seen r m′ ≡ with-memory (f (usable n (length m)) (found n m t′)) (left n m t′)
 touch-is n m f r e k (p, q) g =
     seen-is r (g ∙ (λ i. f (e i) ((p ∙ ap (found n m) k) i))) (q ∙ ap (left n m) k)
+
+-- a limit of 1 to 64
+module _ (x : ℕ) where
+  pub limit-low : x < 1 → (leb 1 x && leb x 64) ≡ false
+  limit-low h = simp (lt-leb 1 x h)
+
+  pub limit-high : 1 ≤ x → 64 < x → (leb 1 x && leb x 64) ≡ false
+  limit-high l h = simp (le-leb 1 x l, lt-leb x 64 h)
+
+  pub limit-yes : 1 ≤ x → x ≤ 64 → (leb 1 x && leb x 64) ≡ true
+  limit-yes l h = simp (le-leb 1 x l, le-leb x 64 h)

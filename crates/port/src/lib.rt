@@ -1,7 +1,6 @@
-// The port half: registers and handshake, and the two sides that fetch commands and post answers.
+// The port half: its record, its creation, and what its calls share. The calls are the crates `registers`, `fetch` and `post`.
 // Every call is total: any register word, any memory, any stage gets an answer.
-pub mod fetch;
-pub mod post;
-pub mod shake;
+pub mod create;
+pub mod effect;
 pub mod state;
 pub mod tail;

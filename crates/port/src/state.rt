@@ -60,11 +60,11 @@ pub enum TailEnd {
 // Where an operation stands: its slot, that slot's high word as read, where the envelope starts, the text's length,
 // the next text word, and whether a post answers a command.
 pub struct Cursor {
-    pub slot: u8,
-    pub high: u16,
     pub envelope: u32,
+    pub high: u16,
     pub size: u16,
     pub at: u16,
+    pub slot: u8,
     pub answers: bool,
 }
 

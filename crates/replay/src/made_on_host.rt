@@ -22,13 +22,13 @@ fn begin_send(x: Stage, flag: bool, text: Text, mem: &[u8], out: &mut [u8; 65536
     let host = x.host;
     let bytes = text.bytes;
     let n = part::within(text.size, &bytes);
-    let r = host.begin_send(Asked { flag }, &bytes[..n]);
+    let r = send::begin_send(host, Asked { flag }, &bytes[..n]);
     x.host_replied(r, mem, out)
 }
 
 fn clear(x: Stage, ring: Ring, mem: &mut [u8], out: &mut [u8; 65536]) -> Stage {
     let host = x.host;
-    let r = host.clear_indicator(ring, mem);
+    let r = setup::clear_indicator(host, ring, mem);
     x.host_replied(r, mem, out)
 }
 
@@ -42,15 +42,19 @@ pub fn call(
 ) -> Stage {
     let host = x.host;
     match name {
-        OnHost::Begin => x.host_asked(host.begin(beginning_of(numbers)), mem, out),
-        OnHost::SaSeen => x.host_asked(host.sa_seen(stage::word_of(numbers[0])), mem, out),
-        OnHost::TimeIsUp => x.host_asked(host.time_is_up(), mem, out),
+        OnHost::Begin => x.host_asked(handshake::begin(host, beginning_of(numbers)), mem, out),
+        OnHost::SaSeen => x.host_asked(
+            handshake::sa_seen(host, stage::word_of(numbers[0])),
+            mem,
+            out,
+        ),
+        OnHost::TimeIsUp => x.host_asked(handshake::time_is_up(host), mem, out),
         OnHost::SetUp => {
-            let r = host.set_up(numbers[0], mem);
+            let r = setup::set_up(host, numbers[0], mem);
             x.host_replied(r, mem, out)
         }
         OnHost::BeginSend => begin_send(x, stage::bit_of(numbers[0]), text, mem, out),
-        OnHost::BeginTake => x.host_replied(host.begin_take(), mem, out),
+        OnHost::BeginTake => x.host_replied(take::begin_take(host), mem, out),
         OnHost::ClearCommand => clear(x, Ring::Command, mem, out),
         OnHost::ClearResponse => clear(x, Ring::Response, mem, out),
     }

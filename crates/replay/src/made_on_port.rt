@@ -19,7 +19,7 @@ fn made_of(n: [u32; 5]) -> Made {
 
 fn write_ip(x: Stage, mem: &[u8], out: &mut [u8; 65536]) -> Stage {
     let port = x.port;
-    let fresh = port.write_ip();
+    let fresh = registers::write_ip(port);
     let a = x.starts(out);
     let b = part::name(out, a, b"done");
     x.port_shown(fresh, b, mem, out)
@@ -28,7 +28,7 @@ fn write_ip(x: Stage, mem: &[u8], out: &mut [u8; 65536]) -> Stage {
 fn read_sa(x: Stage, mem: &[u8], out: &mut [u8; 65536]) -> Stage {
     let port = x.port;
     let a = x.starts(out);
-    let b = part::word(out, a, port.sa());
+    let b = part::word(out, a, registers::sa(port));
     x.port_shown(port, b, mem, out)
 }
 
@@ -36,7 +36,7 @@ fn begin_answer(x: Stage, text: Text, mem: &[u8], out: &mut [u8; 65536]) -> Stag
     let port = x.port;
     let bytes = text.bytes;
     let n = part::within(text.size, &bytes);
-    let r = port.begin_answer(&bytes[..n]);
+    let r = post::begin_answer(port, &bytes[..n]);
     x.port_replied(r, mem, out)
 }
 
@@ -44,7 +44,7 @@ fn begin_unsolicited(x: Stage, text: Text, mem: &[u8], out: &mut [u8; 65536]) ->
     let port = x.port;
     let bytes = text.bytes;
     let n = part::within(text.size, &bytes);
-    let r = port.begin_unsolicited(&bytes[..n]);
+    let r = post::begin_unsolicited(port, &bytes[..n]);
     x.port_replied(r, mem, out)
 }
 
@@ -62,10 +62,10 @@ pub fn call(
         OnPort::WriteIp => write_ip(x, mem, out),
         OnPort::ReadSa => read_sa(x, mem, out),
         OnPort::WriteSa => {
-            let r = port.write_sa(stage::word_of(numbers[0]), mem);
+            let r = registers::write_sa(port, stage::word_of(numbers[0]), mem);
             x.port_replied(r, mem, out)
         }
-        OnPort::BeginFetch => x.port_replied(port.begin_fetch(), mem, out),
+        OnPort::BeginFetch => x.port_replied(fetch::begin_fetch(port), mem, out),
         OnPort::BeginAnswer => begin_answer(x, text, mem, out),
         OnPort::BeginUnsolicited => begin_unsolicited(x, text, mem, out),
     }

@@ -102,7 +102,7 @@ impl Stage {
         self
     }
 
-    pub fn with_host(self, host: Host) -> Stage {
+    fn with_host(self, host: Host) -> Stage {
         let port = self.port;
         Stage {
             host,
@@ -114,7 +114,7 @@ impl Stage {
         }
     }
 
-    pub fn with_port(self, port: Port) -> Stage {
+    fn with_port(self, port: Port) -> Stage {
         let host = self.host;
         Stage {
             host,
@@ -150,7 +150,7 @@ impl Stage {
     }
 
     // The host after a call whose answer is put: the rest of the line.
-    pub fn host_shown(self, host: Host, at: usize, mem: &[u8], out: &mut [u8; 65536]) -> Stage {
+    fn host_shown(self, host: Host, at: usize, mem: &[u8], out: &mut [u8; 65536]) -> Stage {
         let a = part::bar(out, at);
         let b = of_host::state(out, a, host);
         let c = closed(out, b, mem);

@@ -7,19 +7,19 @@ fn step(x: Stage, side: Side, mem: &mut [u8], out: &mut [u8; 65536]) -> Stage {
     let port = x.port;
     match side {
         Side::Fetch => {
-            let r = port.step_fetch(mem);
+            let r = fetch::step_fetch(port, mem);
             x.port_replied(r, mem, out)
         }
         Side::Post => {
-            let r = port.step_post(mem);
+            let r = post::step_post(port, mem);
             x.port_replied(r, mem, out)
         }
         Side::Send => {
-            let r = host.step_send(mem);
+            let r = send::step_send(host, mem);
             x.host_replied(r, mem, out)
         }
         Side::Take => {
-            let r = host.step_take(mem);
+            let r = take::step_take(host, mem);
             x.host_replied(r, mem, out)
         }
     }

@@ -6,7 +6,6 @@ use host::state::Host;
 use port::state::Port;
 use saying::part;
 
-// Each step call stands at one place, so that the compiler can put it there whole and need not hand the state over.
 // More steps than any operation has: 30 text words, and 7 besides.
 const MOST: u32 = 64;
 
@@ -40,85 +39,86 @@ fn port_end(r: port::state::Stepped, steps: u32) -> PortEnd {
     PortEnd { reply, port, steps }
 }
 
-fn step_send(begun: host::state::Stepped, mem: &mut [u8]) -> HostEnd {
-    let mut r = begun;
-    let mut steps = 0u32;
+// Each step is called at two places, so that the compiler keeps it a function: what is measured is a call.
+fn step_send(begun: Host, mem: &mut [u8]) -> HostEnd {
+    let mut r = send::step_send(begun, mem);
+    let mut steps = 1u32;
     while steps < MOST {
         let reply = r.reply;
         let said = reply.said;
         if !goes_on(said) {
             return host_end(r, steps);
         }
-        r = r.host.step_send(mem);
+        r = send::step_send(r.host, mem);
         steps += 1;
     }
     host_end(r, steps)
 }
 
-fn step_take(begun: host::state::Stepped, mem: &mut [u8]) -> HostEnd {
-    let mut r = begun;
-    let mut steps = 0u32;
+fn step_take(begun: Host, mem: &mut [u8]) -> HostEnd {
+    let mut r = take::step_take(begun, mem);
+    let mut steps = 1u32;
     while steps < MOST {
         let reply = r.reply;
         let said = reply.said;
         if !goes_on(said) {
             return host_end(r, steps);
         }
-        r = r.host.step_take(mem);
+        r = take::step_take(r.host, mem);
         steps += 1;
     }
     host_end(r, steps)
 }
 
-fn step_fetch(begun: port::state::Stepped, mem: &mut [u8]) -> PortEnd {
-    let mut r = begun;
-    let mut steps = 0u32;
+fn step_fetch(begun: Port, mem: &mut [u8]) -> PortEnd {
+    let mut r = fetch::step_fetch(begun, mem);
+    let mut steps = 1u32;
     while steps < MOST {
         let reply = r.reply;
         let said = reply.said;
         if !goes_on(said) {
             return port_end(r, steps);
         }
-        r = r.port.step_fetch(mem);
+        r = fetch::step_fetch(r.port, mem);
         steps += 1;
     }
     port_end(r, steps)
 }
 
-fn step_post(begun: port::state::Stepped, mem: &mut [u8]) -> PortEnd {
-    let mut r = begun;
-    let mut steps = 0u32;
+fn step_post(begun: Port, mem: &mut [u8]) -> PortEnd {
+    let mut r = post::step_post(begun, mem);
+    let mut steps = 1u32;
     while steps < MOST {
         let reply = r.reply;
         let said = reply.said;
         if !goes_on(said) {
             return port_end(r, steps);
         }
-        r = r.port.step_post(mem);
+        r = post::step_post(r.port, mem);
         steps += 1;
     }
     port_end(r, steps)
 }
 
 pub fn send(host: Host, text: &[u8], mem: &mut [u8]) -> HostEnd {
-    let r = host.begin_send(Asked { flag: false }, text);
-    step_send(r, mem)
+    let r = send::begin_send(host, Asked { flag: false }, text);
+    step_send(r.host, mem)
 }
 
 pub fn take(host: Host, mem: &mut [u8]) -> HostEnd {
-    let r = host.begin_take();
-    step_take(r, mem)
+    let r = take::begin_take(host);
+    step_take(r.host, mem)
 }
 
 pub fn fetch(port: Port, mem: &mut [u8]) -> PortEnd {
-    let r = port.begin_fetch();
-    step_fetch(r, mem)
+    let r = fetch::begin_fetch(port);
+    step_fetch(r.port, mem)
 }
 
 // A command is answered with its own text.
 pub fn answer(port: Port, command: Reply, mem: &mut [u8]) -> PortEnd {
     let bytes = command.bytes;
     let n = part::within(command.size as usize, &bytes);
-    let r = port.begin_answer(&bytes[..n]);
-    step_post(r, mem)
+    let r = post::begin_answer(port, &bytes[..n]);
+    step_post(r.port, mem)
 }

@@ -32,7 +32,7 @@ pub fn put_all(out: &mut [u8; 65536], at: usize, s: &[u8]) -> usize {
 }
 
 // A number in decimal digits, with nothing before it.
-pub fn digits(out: &mut [u8; 65536], at: usize, n: u32) -> usize {
+fn digits(out: &mut [u8; 65536], at: usize, n: u32) -> usize {
     let mut text = [0u8; 20];
     let k = io::decimal(n as u64, &mut text);
     put_all(out, at, &text[..k])

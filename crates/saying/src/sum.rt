@@ -17,7 +17,7 @@ fn times(x: u32) -> u32 {
 }
 
 // The sum with one more byte.
-pub fn with_byte(sum: u32, b: u8) -> u32 {
+fn with_byte(sum: u32, b: u8) -> u32 {
     times(either(sum, wide(b)))
 }
 

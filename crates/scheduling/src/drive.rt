@@ -15,7 +15,7 @@ pub enum Side {
 }
 
 // The side that a byte's two high bits name.
-pub fn side_of(k: u8) -> Side
+fn side_of(k: u8) -> Side
     ensures { λ r. ⌜ r ≡ sideOf k ⌝ }
 {
     if k == 0 {
@@ -37,9 +37,9 @@ impl Machine {
     {
         let text = machine::bytes_of(self.tally.sent);
         let host = self.host;
-        let b = host.begin_send(Asked { flag: false }, &text);
+        let b = send::begin_send(host, Asked { flag: false }, &text);
         let begun = b.host;
-        let r = begun.step_send(mem);
+        let r = send::step_send(begun, mem);
         let reply = r.reply;
         let after = r.host;
         self.after_send(reply, after)
@@ -50,9 +50,9 @@ impl Machine {
         ensures { λ r. ⌜ stand r (now (mem .exit)) ≡ takeTurn self (now (mem .entry)) ⌝ }
     {
         let host = self.host;
-        let b = host.begin_take();
+        let b = take::begin_take(host);
         let begun = b.host;
-        let r = begun.step_take(mem);
+        let r = take::step_take(begun, mem);
         let reply = r.reply;
         let after = r.host;
         self.after_take(reply, after)
@@ -63,9 +63,9 @@ impl Machine {
         ensures { λ r. ⌜ stand r (now (mem .exit)) ≡ fetchTurn self (now (mem .entry)) ⌝ }
     {
         let port = self.port;
-        let b = port.begin_fetch();
+        let b = fetch::begin_fetch(port);
         let begun = b.port;
-        let r = begun.step_fetch(mem);
+        let r = fetch::step_fetch(begun, mem);
         let reply = r.reply;
         let after = r.port;
         self.after_fetch(reply, after)
@@ -77,9 +77,9 @@ impl Machine {
     {
         let text = machine::bytes_of(self.oldest_text() as u32);
         let port = self.port;
-        let b = port.begin_answer(&text);
+        let b = post::begin_answer(port, &text);
         let begun = b.port;
-        let r = begun.step_post(mem);
+        let r = post::step_post(begun, mem);
         let reply = r.reply;
         let after = r.port;
         self.after_answer(reply, after)
@@ -111,7 +111,7 @@ impl Machine {
     }
 
     // A byte of the schedule: 2 bits side, 6 bits number of steps.
-    pub fn byte(self, b: u8, mem: &mut [u8]) -> Machine
+    fn byte(self, b: u8, mem: &mut [u8]) -> Machine
         ensures { λ r. ⌜ stand r (now (mem .exit)) ≡ byteTurns b (stand self (now (mem .entry))) ⌝ }
     {
         self.steps(side_of(b >> 6), b % 64, mem)

@@ -51,7 +51,7 @@ pub fn accepted(input: &[u8]) -> bool
 }
 
 // The line of a refused input.
-pub fn refused() -> Line
+fn refused() -> Line
     ensures { λ r. ⌜ r ≡ refusedLine ⌝ }
 {
     Line {
@@ -69,14 +69,14 @@ pub fn refused() -> Line
 }
 
 // The line of a machine at the schedule's end.
-pub fn line_of(x: Machine) -> Line
+fn line_of(x: Machine) -> Line
     ensures { λ r. ⌜ r ≡ lineOf x ⌝ }
 {
     let tally = x.tally;
     let account = x.host.counts.account;
     let owed = x.port.counts.owed;
     let port = x.port;
-    let sa = port.sa();
+    let sa = registers::sa(port);
     Line {
         refused: false,
         sent: tally.sent,

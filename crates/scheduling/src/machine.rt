@@ -25,7 +25,7 @@ pub struct Machine {
 }
 
 // A number, or the next where something is counted.
-pub fn counted_if(b: bool, n: u32) -> u32
+fn counted_if(b: bool, n: u32) -> u32
     ensures { λ r. ⌜ r ≡ countedIf b n ⌝ }
 {
     if b {
@@ -36,7 +36,7 @@ pub fn counted_if(b: bool, n: u32) -> u32
 }
 
 // Whether an answer closes its operation well.
-pub fn is_done(reply: Reply) -> bool
+fn is_done(reply: Reply) -> bool
     ensures { λ r. ⌜ r ≡ isDone (toldOf reply) ⌝ }
 {
     let said = reply.said;
@@ -64,14 +64,14 @@ pub fn text_in(reply: Reply) -> u16
 }
 
 impl Tally {
-    pub fn with_sent(mut self, b: bool) -> Tally
+    fn with_sent(mut self, b: bool) -> Tally
         ensures { λ r. ⌜ r ≡ withSent self b ⌝ }
     {
         self.sent = counted_if(b, self.sent);
         self
     }
 
-    pub fn with_taken(mut self, b: bool) -> Tally
+    fn with_taken(mut self, b: bool) -> Tally
         ensures { λ r. ⌜ r ≡ withTaken self b ⌝ }
     {
         self.taken = counted_if(b, self.taken);
@@ -79,7 +79,7 @@ impl Tally {
     }
 
     // A step of the fetch side: a command fetched or not, and an interrupt or not.
-    pub fn with_fetched(mut self, b: bool, i: bool) -> Tally
+    fn with_fetched(mut self, b: bool, i: bool) -> Tally
         ensures { λ r. ⌜ r ≡ withFetched self b i ⌝ }
     {
         self.fetched = counted_if(b, self.fetched);
@@ -88,7 +88,7 @@ impl Tally {
     }
 
     // A step of the post side: a command answered or not, and an interrupt or not.
-    pub fn with_answered(mut self, b: bool, i: bool) -> Tally
+    fn with_answered(mut self, b: bool, i: bool) -> Tally
         ensures { λ r. ⌜ r ≡ withAnswered self b i ⌝ }
     {
         self.answered = counted_if(b, self.answered);
@@ -108,7 +108,7 @@ impl Machine {
     }
 
     // The texts with that of the command just fetched.
-    pub fn keeps(self, b: bool, text: u16) -> [u16; 64]
+    fn keeps(self, b: bool, text: u16) -> [u16; 64]
         ensures { λ r. ⌜ r ≡ kept self b text ⌝ }
     {
         let mut texts = self.texts;

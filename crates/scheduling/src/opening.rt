@@ -24,11 +24,11 @@ pub fn obey(host: Host, port: Port, act: Act, mem: &mut [u8]) -> Halves
 {
     match act {
         Act::WriteIp => {
-            let fresh = port.write_ip();
+            let fresh = registers::write_ip(port);
             Halves { host, port: fresh }
         }
         Act::WriteSa(w) => {
-            let r = port.write_sa(w, mem);
+            let r = registers::write_sa(port, w, mem);
             let heard = r.port;
             Halves { host, port: heard }
         }
@@ -41,29 +41,29 @@ pub fn obey(host: Host, port: Port, act: Act, mem: &mut [u8]) -> Halves
 }
 
 // The host begins.
-pub fn begins(b: Beginning, host: Host, port: Port, mem: &mut [u8]) -> Halves
+fn begins(b: Beginning, host: Host, port: Port, mem: &mut [u8]) -> Halves
     ensures { λ r. ⌜ pair (r .host) (r .port) (now (mem .exit)) ≡ opened b (pair host port (now (mem .entry))) ⌝ }
 {
-    let r = host.begin(b);
+    let r = handshake::begin(host, b);
     let act = r.act;
     let begun = r.host;
     obey(begun, port, act, mem)
 }
 
 // The host is shown SA.
-pub fn show(x: Halves, mem: &mut [u8]) -> Halves
+fn show(x: Halves, mem: &mut [u8]) -> Halves
     ensures { λ r. ⌜ pair (r .host) (r .port) (now (mem .exit)) ≡ exchange (pair (x .host) (x .port) (now (mem .entry))) ⌝ }
 {
     let host = x.host;
     let port = x.port;
-    let r = host.sa_seen(port.sa());
+    let r = handshake::sa_seen(host, registers::sa(port));
     let act = r.act;
     let shown = r.host;
     obey(shown, port, act, mem)
 }
 
 // .. a number of times.
-pub fn show_times(x: Halves, n: usize, mem: &mut [u8]) -> Halves
+fn show_times(x: Halves, n: usize, mem: &mut [u8]) -> Halves
     ensures { λ r. ⌜ pair (r .host) (r .port) (now (mem .exit)) ≡ exchanges n (pair (x .host) (x .port) (now (mem .entry))) ⌝ }
 {
     let mut h = x;
@@ -76,7 +76,7 @@ pub fn show_times(x: Halves, n: usize, mem: &mut [u8]) -> Halves
 }
 
 // A host that has not begun, and a port just created.
-pub fn apart(limit: u8) -> Halves
+fn apart(limit: u8) -> Halves
     ensures { λ r. ⌜ r ≡ unmet limit ⌝ }
 {
     let made = Made {
@@ -93,7 +93,7 @@ pub fn apart(limit: u8) -> Halves
 }
 
 // What the host begins with: ring base 8, no step interrupts, and a vector, so that each indicator write is reported.
-pub fn settings(command: u8, response: u8) -> Beginning
+fn settings(command: u8, response: u8) -> Beginning
     ensures { λ r. ⌜ r ≡ asked command response ⌝ }
 {
     Beginning {
@@ -106,12 +106,12 @@ pub fn settings(command: u8, response: u8) -> Beginning
 }
 
 // The setup with the pool at 2048, and nothing counted yet.
-pub fn settle(x: Halves, mem: &mut [u8]) -> Machine
+fn settle(x: Halves, mem: &mut [u8]) -> Machine
     ensures { λ r. ⌜ stand r (now (mem .exit)) ≡ settled (pair (x .host) (x .port) (now (mem .entry))) ⌝ }
 {
     let host = x.host;
     let port = x.port;
-    let r = host.set_up(2048, mem);
+    let r = setup::set_up(host, 2048, mem);
     let ready = r.host;
     let tally = Tally {
         sent: 0,

@@ -20,7 +20,7 @@ pub struct Text {
 }
 
 // What a digit is worth; 16 where a byte is no hexadecimal digit.
-pub fn digit_of(b: u8) -> u8
+fn digit_of(b: u8) -> u8
     ensures { λ r. ⌜ r ≤ 16 ⌝ }
 {
     match b {

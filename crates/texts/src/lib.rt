@@ -24,14 +24,14 @@ pub fn blank() -> [u8; 60]
 }
 
 // A byte of the room; 0 past its end.
-pub fn byte_at(text: &[u8; 60], i: usize) -> u8
+fn byte_at(text: &[u8; 60], i: usize) -> u8
     ensures { λ r. ⌜ r ≡ byteAt (now (text .entry)) i ⌝ }
 {
     if i < LONGEST { text[i] } else { 0 }
 }
 
 // Stores a byte of the room; past its end nothing changes.
-pub fn put_byte(text: &mut [u8; 60], i: usize, b: u8)
+fn put_byte(text: &mut [u8; 60], i: usize, b: u8)
     ensures { λ r. ⌜ now (text .exit) ≡ withByte (now (text .entry)) i b ⌝ }
 {
     if i < LONGEST {

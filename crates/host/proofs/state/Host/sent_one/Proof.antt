@@ -1,6 +1,6 @@
 use mathlib.Core.Logic.{⊎-elim}
 use native.Mathlib.Omega.{arith}
-use Rattle.host.proofs.SendLaws.{sent-is}
+use Rattle.host.proofs.EffectLaws.{sent-is}
 use borrow.Author.Needs.{needs}
 use Rattle.host.proofs.state.Host.sent_one.Statement.{statement}
 use Rattle.host.proofs.state.Host.sent_one.Tie as tie

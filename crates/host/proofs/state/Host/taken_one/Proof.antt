@@ -1,6 +1,6 @@
 use mathlib.Core.Logic.{⊎-elim}
 use native.Mathlib.Omega.{arith}
-use Rattle.host.proofs.TakeLaws.{taken-is}
+use Rattle.host.proofs.EffectLaws.{taken-is}
 use borrow.Author.Needs.{needs}
 use Rattle.host.proofs.state.Host.taken_one.Statement.{statement}
 use Rattle.host.proofs.state.Host.taken_one.Tie as tie

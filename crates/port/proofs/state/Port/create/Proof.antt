@@ -1,7 +1,6 @@
 use Rattle.answers.specs.declared.Said.the-variants.{Done}
 use Rattle.port.specs.Shake.{created}
-use Rattle.port.proofs.StateLaws.{yes, no, said-is}
-use Rattle.port.proofs.ShakeLaws.{limit-low, limit-high, limit-yes}
+use Rattle.port.proofs.StateLaws.{yes, no, said-is, limit-low, limit-high, limit-yes}
 use borrow.Author.Needs.{needs}
 use Rattle.port.proofs.state.Port.create.Statement.{statement}
 use Rattle.port.proofs.state.Port.create.Tie as tie

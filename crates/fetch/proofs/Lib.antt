@@ -1,0 +1,2 @@
+pub mod FetchLaws
+pub mod Determined

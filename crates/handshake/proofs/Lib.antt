@@ -1,0 +1,2 @@
+pub mod ShakeLaws
+pub mod Determined
