@@ -86,7 +86,7 @@ impl Machine {
     }
 
     // A step of a side.
-    pub fn step(self, side: Side, mem: &mut [u8]) -> Machine
+    fn step(self, side: Side, mem: &mut [u8]) -> Machine
         ensures { λ r. ⌜ stand r (now (mem .exit)) ≡ turnOf side (stand self (now (mem .entry))) ⌝ }
     {
         match side {

@@ -24,14 +24,14 @@ pub struct Line {
 }
 
 // A byte of the input; 0 past its end.
-pub fn byte_of(input: &[u8], i: usize) -> u8
+fn byte_of(input: &[u8], i: usize) -> u8
     ensures { λ r. ⌜ r ≡ byteOf (now (input .entry)) i ⌝ }
 {
     if i < input.len() { input[i] } else { 0 }
 }
 
 // Whether an input is a schedule.
-pub fn accepted(input: &[u8]) -> bool
+fn accepted(input: &[u8]) -> bool
     ensures { λ r. ⌜ r ≡ takes (now (input .entry)) ⌝ }
 {
     if input.len() < 2 {

@@ -56,7 +56,7 @@ pub fn bytes_of(n: u32) -> [u8; 2]
 }
 
 // The number that a text's first two bytes say.
-pub fn text_in(reply: Reply) -> u16
+fn text_in(reply: Reply) -> u16
     ensures { λ r. ⌜ r ≡ textIn (toldOf reply) ⌝ }
 {
     let bytes = reply.bytes;

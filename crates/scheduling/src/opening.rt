@@ -19,7 +19,7 @@ pub struct Halves {
 }
 
 // What the host asks is done.
-pub fn obey(host: Host, port: Port, act: Act, mem: &mut [u8]) -> Halves
+fn obey(host: Host, port: Port, act: Act, mem: &mut [u8]) -> Halves
     ensures { λ r. ⌜ pair (r .host) (r .port) (now (mem .exit)) ≡ obeyed host port (now (mem .entry)) (asksOf act) ⌝ }
 {
     match act {
