@@ -34,7 +34,7 @@ pub fn usable_of(mem: &[u8]) -> usize
 }
 
 // The word at an address.
-fn read_word(mem: &[u8], a: usize) -> Word
+pub fn read_word(mem: &[u8], a: usize) -> Word
     ensures { λ r. ⌜ r ≡ wordAt addressBits (now (mem .entry)) a ⌝ }
 {
     let end = usable_of(mem);

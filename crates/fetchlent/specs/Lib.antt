@@ -1,0 +1,2 @@
+-- The fetch side in place.
+pub mod Fetching

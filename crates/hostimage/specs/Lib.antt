@@ -1,0 +1,2 @@
+-- A host in place.
+pub mod Image

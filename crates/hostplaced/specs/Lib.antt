@@ -1,0 +1,2 @@
+-- A host put in place.
+pub mod Placed

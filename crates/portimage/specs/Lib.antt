@@ -1,0 +1,2 @@
+-- A port in place.
+pub mod Image

@@ -1,0 +1,2 @@
+-- A port put in place.
+pub mod Placed

@@ -1,0 +1,2 @@
+-- The send side in place.
+pub mod Sending
