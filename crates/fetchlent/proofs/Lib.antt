@@ -1,1 +1,2 @@
 pub mod FetchLentLaws
+pub mod Determined

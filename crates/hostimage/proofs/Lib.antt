@@ -1,2 +1,3 @@
 pub mod ImageLaws
 pub mod TakeImageLaws
+pub mod Determined

@@ -1,1 +1,2 @@
 pub mod PostLentLaws
+pub mod Determined

@@ -1,1 +1,2 @@
 pub mod SendLentLaws
+pub mod Determined

@@ -1,1 +1,2 @@
 pub mod TakeLentLaws
+pub mod Determined
