@@ -2,6 +2,7 @@
 use crate::stage;
 use crate::stage::Stage;
 use area::Ring;
+use eitherway::on_host;
 use host::state::Asked;
 use host::state::Beginning;
 use saying::part;
@@ -22,7 +23,7 @@ fn begin_send(x: Stage, flag: bool, text: Text, mem: &[u8], out: &mut [u8; 65536
     let host = x.host;
     let bytes = text.bytes;
     let n = part::within(text.size, &bytes);
-    let r = send::begin_send(host, Asked { flag }, &bytes[..n]);
+    let r = on_host::begin_send(host, x.placed, Asked { flag }, &bytes[..n]);
     x.host_replied(r, mem, out)
 }
 
@@ -54,7 +55,7 @@ pub fn call(
             x.host_replied(r, mem, out)
         }
         OnHost::BeginSend => begin_send(x, stage::bit_of(numbers[0]), text, mem, out),
-        OnHost::BeginTake => x.host_replied(take::begin_take(host), mem, out),
+        OnHost::BeginTake => x.host_replied(on_host::begin_take(host, x.placed), mem, out),
         OnHost::ClearCommand => clear(x, Ring::Command, mem, out),
         OnHost::ClearResponse => clear(x, Ring::Response, mem, out),
     }

@@ -1,6 +1,7 @@
 // The calls of the port.
 use crate::stage;
 use crate::stage::Stage;
+use eitherway::on_port;
 use port::state::Made;
 use port::state::Port;
 use saying::part;
@@ -36,7 +37,7 @@ fn begin_answer(x: Stage, text: Text, mem: &[u8], out: &mut [u8; 65536]) -> Stag
     let port = x.port;
     let bytes = text.bytes;
     let n = part::within(text.size, &bytes);
-    let r = post::begin_answer(port, &bytes[..n]);
+    let r = on_port::begin_answer(port, x.placed, &bytes[..n]);
     x.port_replied(r, mem, out)
 }
 
@@ -44,7 +45,7 @@ fn begin_unsolicited(x: Stage, text: Text, mem: &[u8], out: &mut [u8; 65536]) ->
     let port = x.port;
     let bytes = text.bytes;
     let n = part::within(text.size, &bytes);
-    let r = post::begin_unsolicited(port, &bytes[..n]);
+    let r = on_port::begin_unsolicited(port, x.placed, &bytes[..n]);
     x.port_replied(r, mem, out)
 }
 
@@ -65,7 +66,7 @@ pub fn call(
             let r = registers::write_sa(port, stage::word_of(numbers[0]), mem);
             x.port_replied(r, mem, out)
         }
-        OnPort::BeginFetch => x.port_replied(fetch::begin_fetch(port), mem, out),
+        OnPort::BeginFetch => x.port_replied(on_port::begin_fetch(port, x.placed), mem, out),
         OnPort::BeginAnswer => begin_answer(x, text, mem, out),
         OnPort::BeginUnsolicited => begin_unsolicited(x, text, mem, out),
     }

@@ -1,4 +1,4 @@
-// What a script does to the stage itself: somebody else's hand on the memory, and a look at it.
+// What a script does to the stage itself: how the sides are called, somebody else's hand on the memory, and a look at it.
 use crate::stage;
 use crate::stage::Stage;
 use saying::part;
@@ -67,6 +67,7 @@ pub fn call(x: Stage, name: OnStage, n: [u32; 5], mem: &mut [u8], out: &mut [u8;
             x.afresh()
         }
         OnStage::Memory => x.lends(n[0] as usize),
+        OnStage::Place => x.places(stage::bit_of(n[0])),
         OnStage::Fill => {
             fill(mem, x.lent, stage::byte_of(n[0]));
             x

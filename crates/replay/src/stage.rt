@@ -1,4 +1,5 @@
-// The stage: one host, one port, how many bytes are lent, and how far the script and the printed lines have come.
+// The stage: one host, one port, how many bytes are lent, whether the sides are called in place, and how far the script and the printed
+// lines have come.
 use host::state::Host;
 use port::state::Made;
 use port::state::Port;
@@ -16,6 +17,7 @@ pub struct Stage {
     pub host: Host,
     pub port: Port,
     pub lent: usize,
+    pub placed: bool,
     pub line: u32,
     pub at: usize,
     pub over: bool,
@@ -57,7 +59,7 @@ fn closed(out: &mut [u8; 65536], at: usize, mem: &[u8]) -> usize {
 }
 
 impl Stage {
-    // A host that has not begun, a port with all 0 and limit 1, and no byte lent.
+    // A host that has not begun, a port with all 0 and limit 1, no byte lent, and calls by value.
     pub fn new() -> Stage {
         let made = Made {
             nv: false,
@@ -73,6 +75,7 @@ impl Stage {
             host,
             port,
             lent: 0,
+            placed: false,
             line: 0,
             at: 0,
             over: false,
@@ -97,6 +100,11 @@ impl Stage {
         self
     }
 
+    pub fn places(mut self, placed: bool) -> Stage {
+        self.placed = placed;
+        self
+    }
+
     pub fn printed(mut self, at: usize) -> Stage {
         self.at = at;
         self
@@ -108,6 +116,7 @@ impl Stage {
             host,
             port,
             lent: self.lent,
+            placed: self.placed,
             line: self.line,
             at: self.at,
             over: self.over,
@@ -120,6 +129,7 @@ impl Stage {
             host,
             port,
             lent: self.lent,
+            placed: self.placed,
             line: self.line,
             at: self.at,
             over: self.over,

@@ -1,5 +1,7 @@
 // The four step calls, which a line may ask more than once.
 use crate::stage::Stage;
+use eitherway::on_host;
+use eitherway::on_port;
 use script::name::Side;
 
 fn step(x: Stage, side: Side, mem: &mut [u8], out: &mut [u8; 65536]) -> Stage {
@@ -7,19 +9,19 @@ fn step(x: Stage, side: Side, mem: &mut [u8], out: &mut [u8; 65536]) -> Stage {
     let port = x.port;
     match side {
         Side::Fetch => {
-            let r = fetch::step_fetch(port, mem);
+            let r = on_port::step_fetch(port, x.placed, mem);
             x.port_replied(r, mem, out)
         }
         Side::Post => {
-            let r = post::step_post(port, mem);
+            let r = on_port::step_post(port, x.placed, mem);
             x.port_replied(r, mem, out)
         }
         Side::Send => {
-            let r = send::step_send(host, mem);
+            let r = on_host::step_send(host, x.placed, mem);
             x.host_replied(r, mem, out)
         }
         Side::Take => {
-            let r = take::step_take(host, mem);
+            let r = on_host::step_take(host, x.placed, mem);
             x.host_replied(r, mem, out)
         }
     }

@@ -12,6 +12,7 @@ pub enum Side {
 pub enum OnStage {
     Afresh,
     Memory,
+    Place,
     Fill,
     Poke,
     Peek,
@@ -54,6 +55,9 @@ fn stage_name(word: &[u8]) -> Name {
     }
     if line::same(word, b"memory") {
         return Name::Stage(OnStage::Memory);
+    }
+    if line::same(word, b"place") {
+        return Name::Stage(OnStage::Place);
     }
     if line::same(word, b"fill") {
         return Name::Stage(OnStage::Fill);

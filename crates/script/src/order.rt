@@ -71,6 +71,7 @@ fn stage_shape(x: OnStage) -> Shape {
     match x {
         OnStage::Afresh => plain(0, [0, 0, 0, 0, 0]),
         OnStage::Memory => plain(1, [LENT, 0, 0, 0, 0]),
+        OnStage::Place => plain(1, [BIT, 0, 0, 0, 0]),
         OnStage::Fill => plain(1, [BYTE, 0, 0, 0, 0]),
         OnStage::Poke => plain(2, [ANY, WORD, 0, 0, 0]),
         OnStage::Peek => plain(2, [ANY, PEEKED, 0, 0, 0]),
