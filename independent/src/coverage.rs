@@ -9,8 +9,6 @@ use crate::words;
 pub struct Coverage {
     pub calls: u64,
     counts: Vec<(String, u64)>,
-    /// Whether the calls of the sides are made in place.
-    placed: bool,
     /// Whether the host had written IP a second time when the next call comes.
     retried: bool,
 }
@@ -46,7 +44,6 @@ fn wanted() -> Vec<String> {
     all("text of", &["0", "1", "2", "59", "60", "61"]);
     all("interrupt of", &["write-sa", "fetch", "post", "fatal"]);
     all("done of", &["send", "fetch", "post", "take"]);
-    all("done in place of", &["send", "fetch", "post", "take"]);
     all("state", &["wrap", "retry", "dead"]);
     all(
         "bad envelope by",
@@ -60,7 +57,6 @@ impl Coverage {
         Coverage {
             calls: 0,
             counts: wanted().into_iter().map(|name| (name, 0)).collect(),
-            placed: false,
             retried: false,
         }
     }
@@ -150,9 +146,6 @@ impl Coverage {
             _ => return,
         };
         self.count("done of", side);
-        if self.placed {
-            self.count("done in place of", side);
-        }
         if reply.interrupt() {
             self.count("interrupt of", side);
         }
@@ -191,11 +184,6 @@ impl Coverage {
 
 impl Watch for Coverage {
     fn saw(&mut self, call: &Call, answer: &Answer, scene: &Scene) {
-        match call {
-            Call::New => self.placed = false,
-            Call::Place(placed) => self.placed = *placed,
-            _ => {}
-        }
         match answer {
             Answer::Nothing | Answer::Bytes(_) => {}
             _ => self.calls += 1,

@@ -18,9 +18,6 @@ pub fn script(random: &mut Random) -> String {
         lines: Vec::new(),
     };
     writer.say("new");
-    if writer.random.chance(50) {
-        writer.say("place 1");
-    }
     match writer.random.below(100) {
         0..=37 => writer.clean(),
         38..=62 => writer.damaged(),

@@ -22,8 +22,6 @@ const LONGEST_TEXT: usize = 64;
 pub enum Call {
     New,
     Memory(usize),
-    /// Whether the proved program makes the calls of the sides in place; here they are all one.
-    Place(bool),
     Fill(u8),
     Poke(u32, u16),
     Peek(u32, u32),
@@ -118,7 +116,6 @@ impl Call {
         Some(match words[..] {
             ["new"] => Call::New,
             ["memory", length] => Call::Memory(at_most(length, MOST_LENT as u32)? as usize),
-            ["place", placed] => Call::Place(bit(placed)?),
             ["fill", value] => Call::Fill(byte(value)?),
             ["poke", address, word] => Call::Poke(number(address)?, word16(word)?),
             ["peek", address, count] => Call::Peek(number(address)?, at_most(count, MOST_PEEKED)?),
@@ -170,22 +167,6 @@ impl Call {
             | Call::StepTake(times) => *times,
             _ => 1,
         }
-    }
-
-    /// Whether it begins or steps one of the four sides.
-    pub fn is_of_side(&self) -> bool {
-        matches!(
-            self,
-            Call::BeginFetch
-                | Call::StepFetch(_)
-                | Call::BeginAnswer(_)
-                | Call::BeginUnsolicited(_)
-                | Call::StepPost(_)
-                | Call::BeginSend(..)
-                | Call::StepSend(_)
-                | Call::BeginTake
-                | Call::StepTake(_)
-        )
     }
 
     fn is_of_port(&self) -> bool {
@@ -253,7 +234,6 @@ impl Scene {
                 self.lent = *length;
                 return Answer::Nothing;
             }
-            Call::Place(_) => return Answer::Nothing,
             Call::Fill(value) => {
                 self.bytes[..self.lent].fill(*value);
                 return Answer::Nothing;

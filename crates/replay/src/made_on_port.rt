@@ -1,12 +1,11 @@
 // The calls of the port.
 use crate::stage;
 use crate::stage::Stage;
-use eitherway::on_port;
-use port::state::Made;
-use port::state::Port;
-use saying::part;
-use script::name::OnPort;
-use script::value::Text;
+use port_state::state::Made;
+use port_state::state::Port;
+use program_saying::part;
+use program_script::name::OnPort;
+use program_script::value::Text;
 
 fn made_of(n: [u32; 5]) -> Made {
     Made {
@@ -20,7 +19,7 @@ fn made_of(n: [u32; 5]) -> Made {
 
 fn write_ip(x: Stage, mem: &[u8], out: &mut [u8; 65536]) -> Stage {
     let port = x.port;
-    let fresh = registers::write_ip(port);
+    let fresh = port_registers::write_ip(port);
     let a = x.starts(out);
     let b = part::name(out, a, b"done");
     x.port_shown(fresh, b, mem, out)
@@ -29,7 +28,7 @@ fn write_ip(x: Stage, mem: &[u8], out: &mut [u8; 65536]) -> Stage {
 fn read_sa(x: Stage, mem: &[u8], out: &mut [u8; 65536]) -> Stage {
     let port = x.port;
     let a = x.starts(out);
-    let b = part::word(out, a, registers::sa(port));
+    let b = part::word(out, a, port_registers::sa(port));
     x.port_shown(port, b, mem, out)
 }
 
@@ -37,7 +36,7 @@ fn begin_answer(x: Stage, text: Text, mem: &[u8], out: &mut [u8; 65536]) -> Stag
     let port = x.port;
     let bytes = text.bytes;
     let n = part::within(text.size, &bytes);
-    let r = on_port::begin_answer(port, x.placed, &bytes[..n]);
+    let r = port_post::begin_answer(port, &bytes[..n]);
     x.port_replied(r, mem, out)
 }
 
@@ -45,7 +44,7 @@ fn begin_unsolicited(x: Stage, text: Text, mem: &[u8], out: &mut [u8; 65536]) ->
     let port = x.port;
     let bytes = text.bytes;
     let n = part::within(text.size, &bytes);
-    let r = on_port::begin_unsolicited(port, x.placed, &bytes[..n]);
+    let r = port_post::begin_unsolicited(port, &bytes[..n]);
     x.port_replied(r, mem, out)
 }
 
@@ -63,10 +62,10 @@ pub fn call(
         OnPort::WriteIp => write_ip(x, mem, out),
         OnPort::ReadSa => read_sa(x, mem, out),
         OnPort::WriteSa => {
-            let r = registers::write_sa(port, stage::word_of(numbers[0]), mem);
+            let r = port_registers::write_sa(port, stage::word_of(numbers[0]), mem);
             x.port_replied(r, mem, out)
         }
-        OnPort::BeginFetch => x.port_replied(on_port::begin_fetch(port, x.placed), mem, out),
+        OnPort::BeginFetch => x.port_replied(port_fetch::begin_fetch(port), mem, out),
         OnPort::BeginAnswer => begin_answer(x, text, mem, out),
         OnPort::BeginUnsolicited => begin_unsolicited(x, text, mem, out),
     }

@@ -1,8 +1,8 @@
-// What a script does to the stage itself: how the sides are called, somebody else's hand on the memory, and a look at it.
+// What a script does to the stage itself: somebody else's hand on the memory, and a look at it.
 use crate::stage;
 use crate::stage::Stage;
-use saying::part;
-use script::name::OnStage;
+use program_saying::part;
+use program_script::name::OnStage;
 
 // Sets every byte lent.
 fn fill(mem: &mut [u8], lent: usize, b: u8) {
@@ -63,11 +63,10 @@ fn peek(x: Stage, a: u32, n: u32, mem: &[u8], out: &mut [u8; 65536]) -> Stage {
 pub fn call(x: Stage, name: OnStage, n: [u32; 5], mem: &mut [u8], out: &mut [u8; 65536]) -> Stage {
     match name {
         OnStage::Afresh => {
-            memory::clear(mem);
+            base_memory::clear(mem);
             x.afresh()
         }
         OnStage::Memory => x.lends(n[0] as usize),
-        OnStage::Place => x.places(stage::bit_of(n[0])),
         OnStage::Fill => {
             fill(mem, x.lent, stage::byte_of(n[0]));
             x

@@ -5,9 +5,9 @@ mod made_on_stage;
 mod stage;
 mod steps;
 
-use saying::part;
-use script::name::Name;
-use script::order::Order;
+use program_saying::part;
+use program_script::name::Name;
+use program_script::order::Order;
 use stage::Stage;
 
 // The longest script.
@@ -34,8 +34,8 @@ fn run(text: &[u8], mem: &mut [u8], out: &mut [u8; 65536]) -> usize {
     let mut x = Stage::new();
     let mut from = 0;
     while from < text.len() {
-        let end = script::line::next_of(text, from, b'\n');
-        let order = script::order::order_of(&text[from..end]);
+        let end = program_script::line::next_of(text, from, b'\n');
+        let order = program_script::order::order_of(&text[from..end]);
         x = obey(x.next_line(), order, mem, out);
         if x.over {
             return x.at;

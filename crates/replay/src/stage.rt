@@ -1,13 +1,12 @@
-// The stage: one host, one port, how many bytes are lent, whether the sides are called in place, and how far the script and the printed
-// lines have come.
-use host::state::Host;
-use port::state::Made;
-use port::state::Port;
-use saying::answer;
-use saying::of_host;
-use saying::of_port;
-use saying::part;
-use saying::sum;
+// The stage: one host, one port, how many bytes are lent, and how far the script and the printed lines have come.
+use host_state::state::Host;
+use port_state::state::Made;
+use port_state::state::Port;
+use program_saying::answer;
+use program_saying::of_host;
+use program_saying::of_port;
+use program_saying::part;
+use program_saying::sum;
 
 // The buffer is written once it is half full: the other half has room for any line.
 const HALF: usize = 32768;
@@ -17,7 +16,6 @@ pub struct Stage {
     pub host: Host,
     pub port: Port,
     pub lent: usize,
-    pub placed: bool,
     pub line: u32,
     pub at: usize,
     pub over: bool,
@@ -59,7 +57,7 @@ fn closed(out: &mut [u8; 65536], at: usize, mem: &[u8]) -> usize {
 }
 
 impl Stage {
-    // A host that has not begun, a port with all 0 and limit 1, no byte lent, and calls by value.
+    // A host that has not begun, a port with all 0 and limit 1, and no byte lent.
     pub fn new() -> Stage {
         let made = Made {
             nv: false,
@@ -75,7 +73,6 @@ impl Stage {
             host,
             port,
             lent: 0,
-            placed: false,
             line: 0,
             at: 0,
             over: false,
@@ -100,11 +97,6 @@ impl Stage {
         self
     }
 
-    pub fn places(mut self, placed: bool) -> Stage {
-        self.placed = placed;
-        self
-    }
-
     pub fn printed(mut self, at: usize) -> Stage {
         self.at = at;
         self
@@ -116,7 +108,6 @@ impl Stage {
             host,
             port,
             lent: self.lent,
-            placed: self.placed,
             line: self.line,
             at: self.at,
             over: self.over,
@@ -129,7 +120,6 @@ impl Stage {
             host,
             port,
             lent: self.lent,
-            placed: self.placed,
             line: self.line,
             at: self.at,
             over: self.over,
@@ -168,7 +158,12 @@ impl Stage {
     }
 
     // The whole line of a call that the port replied to.
-    pub fn port_replied(self, r: port::state::Stepped, mem: &[u8], out: &mut [u8; 65536]) -> Stage {
+    pub fn port_replied(
+        self,
+        r: port_state::state::Stepped,
+        mem: &[u8],
+        out: &mut [u8; 65536],
+    ) -> Stage {
         let port = r.port;
         let reply = r.reply;
         let a = self.starts(out);
@@ -177,7 +172,12 @@ impl Stage {
     }
 
     // The whole line of a call that the host replied to.
-    pub fn host_replied(self, r: host::state::Stepped, mem: &[u8], out: &mut [u8; 65536]) -> Stage {
+    pub fn host_replied(
+        self,
+        r: host_state::state::Stepped,
+        mem: &[u8],
+        out: &mut [u8; 65536],
+    ) -> Stage {
         let host = r.host;
         let reply = r.reply;
         let a = self.starts(out);
@@ -186,7 +186,12 @@ impl Stage {
     }
 
     // The whole line of a handshake call of the host.
-    pub fn host_asked(self, r: host::state::Shaken, mem: &[u8], out: &mut [u8; 65536]) -> Stage {
+    pub fn host_asked(
+        self,
+        r: host_state::state::Shaken,
+        mem: &[u8],
+        out: &mut [u8; 65536],
+    ) -> Stage {
         let host = r.host;
         let act = r.act;
         let a = self.starts(out);

@@ -1,27 +1,25 @@
 // The four step calls, which a line may ask more than once.
 use crate::stage::Stage;
-use eitherway::on_host;
-use eitherway::on_port;
-use script::name::Side;
+use program_script::name::Side;
 
 fn step(x: Stage, side: Side, mem: &mut [u8], out: &mut [u8; 65536]) -> Stage {
     let host = x.host;
     let port = x.port;
     match side {
         Side::Fetch => {
-            let r = on_port::step_fetch(port, x.placed, mem);
+            let r = port_fetch::step_fetch(port, mem);
             x.port_replied(r, mem, out)
         }
         Side::Post => {
-            let r = on_port::step_post(port, x.placed, mem);
+            let r = port_post::step_post(port, mem);
             x.port_replied(r, mem, out)
         }
         Side::Send => {
-            let r = on_host::step_send(host, x.placed, mem);
+            let r = host_send::step_send(host, mem);
             x.host_replied(r, mem, out)
         }
         Side::Take => {
-            let r = on_host::step_take(host, x.placed, mem);
+            let r = host_take::step_take(host, mem);
             x.host_replied(r, mem, out)
         }
     }

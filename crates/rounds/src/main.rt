@@ -2,14 +2,14 @@
 // Reads one line, `COMMAND RESPONSE SIZE COUNT`: the ring exponents, the texts' length and the number of rounds, in decimal.
 mod side;
 
-use answers::Reply;
-use host::state::Host;
-use port::state::Port;
-use saying::part;
-use saying::sum;
-use scheduling::opening;
-use script::line;
-use script::order;
+use base_answers::Reply;
+use host_state::state::Host;
+use port_state::state::Port;
+use program_saying::part;
+use program_saying::sum;
+use program_scheduling::opening;
+use program_script::line;
+use program_script::order;
 
 // Both halves, the step calls made, and the sum of the texts taken.
 struct Run {

@@ -1,5 +1,5 @@
 // Document 01, "The schedule program": reads a schedule on standard input and prints one line.
-use scheduling::Line;
+use program_scheduling::Line;
 
 // A name and its number.
 fn say(name: &[u8], n: u32) {
@@ -30,6 +30,6 @@ fn main() {
     let mut input = [0u8; 4097];
     let n = io::read_full(0, &mut input);
     let mut mem = [0u8; 32768];
-    let line = scheduling::run(&input[..n], &mut mem);
+    let line = program_scheduling::run(&input[..n], &mut mem);
     print(line);
 }

@@ -48,14 +48,10 @@ pub(super) struct Writer<'a> {
 }
 
 impl Writer<'_> {
-    /// Writes a line and plays it. Now and then a line before it says how the sides are called.
+    /// Writes a line and plays it.
     pub(super) fn say(&mut self, line: impl Into<String>) -> Answer {
         let line = line.into();
         let call = Call::parse(&line).expect("the writer writes calls only");
-        if call.is_of_side() && self.random.chance(12) {
-            let placed = self.random.below(2);
-            self.lines.push(format!("place {placed}"));
-        }
         let mut answer = Answer::Nothing;
         for _ in 0..call.times() {
             answer = self.scene.make(&call);

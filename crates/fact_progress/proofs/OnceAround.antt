@@ -1,0 +1,44 @@
+-- The premises are met, by computing. Assumes nothing.
+use mathlib.Core.Path.{refl}
+use lib.Dec.{lit≤, lit<}
+use Rattle.base_texts.specs.Texts.{zeros, byteAt, withByte, wordOf, withText, padded}
+use Rattle.base_memory.specs.Memory.{usable, inside, lies, withWord, cleared}
+use Rattle.base_rules.specs.Rules.{faultOf, carriedOf, leftOf}
+use Rattle.base_area.specs.Layout.{slots, base, slotAt, nextOf, envelopeAt}
+use Rattle.base_area.specs.Setup.{fits, slotSet, slotsSet, setUp}
+use Rattle.port_state.specs.Post.{creditsOf, posted}
+use Rattle.host_state.specs.State.{isReady}
+use Rattle.host_state.specs.Setup.{setUpBy}
+use Rattle.fact_progress.specs.Instance.{Met}
+
+pub met : Met
+unfolding zeros byteAt withByte wordOf withText padded usable inside lies withWord cleared faultOf carriedOf leftOf slots base slotAt nextOf envelopeAt fits slotSet slotsSet setUp creditsOf posted isReady setUpBy
+met =
+    record {
+      send = record { ready = refl; idle = refl; short = lit≤ tt; credit = lit≤ tt; index = lit< tt; area-fits = refl; free = refl };
+      fetch =
+          record {
+            runs = refl;
+            idle = refl;
+            index = lit< tt;
+            rings = record { low = lit≤ tt; high = lit≤ tt };
+            mine = refl;
+            above = lit≤ tt;
+            below = lit≤ tt;
+            sound = refl;
+            credit = refl;
+          };
+      post =
+          record {
+            runs = refl;
+            idle = refl;
+            short = lit≤ tt;
+            waits = λ e. lit≤ tt;
+            index = lit< tt;
+            rings = record { low = lit≤ tt; high = lit≤ tt };
+            mine = refl;
+            above = lit≤ tt;
+            below = lit≤ tt;
+          };
+      take = record { ready = refl; idle = refl; index = lit< tt; area-fits = refl; back = refl; sound = refl; room = lit≤ tt };
+    }

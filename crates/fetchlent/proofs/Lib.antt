@@ -1,2 +1,0 @@
-pub mod FetchLentLaws
-pub mod Determined

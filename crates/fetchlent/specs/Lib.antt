@@ -1,2 +1,0 @@
--- The fetch side in place.
-pub mod Fetching

@@ -1,3 +1,0 @@
-pub mod ImageLaws
-pub mod TakeImageLaws
-pub mod Determined

@@ -1,2 +1,0 @@
--- A host in place.
-pub mod Image

@@ -1,2 +1,0 @@
--- A host put in place.
-pub mod Placed

@@ -1,0 +1,65 @@
+use Prim.Native.Nat.{ℕ, _+_, _*_, _-_}
+use mathlib.Core.Path.{ap, ap₂, _∙_}
+use Rattle.port_state.specs.State.{withEnvelope}
+use Rattle.port_state.specs.Post.{postLow}
+use Rattle.port_state.specs.declared.state.Cursor.{Cursor}
+use Rattle.port_state.specs.declared.state.Stage.the-variants.{Length}
+use Rattle.port_state.specs.declared.state.Poster.the-variants.{Posting}
+use Rattle.port_state.proofs.StateLaws.{yes, no}
+use Rattle.port_state.proofs.SideLaws.{posting, envelope-low, envelope-past, envelope-in}
+use borrow.Author.Needs.{needs}
+use Rattle.port_post.proofs.post_low.Statement.{statement}
+use Rattle.port_post.proofs.post_low.Tie as tie
+
+address-requires : tie.Need-address-requires
+address-requires c κs = search needs
+
+failed-requires : tie.Need-failed-requires
+failed-requires c κs = search needs
+
+returns : tie.Need-returns
+returns c = unfold postLow in no _ _ (envelope-low _ (c .before .before .address .ensures) _ (c .before .if1 .taken)) (c .failed .ensures)
+
+cast-if2 : tie.Need-cast-if2
+cast-if2 c = search needs
+
+words-of-requires : tie.Need-words-of-requires
+words-of-requires c κs = search needs
+
+mul-if2 : tie.Need-mul-if2
+mul-if2 c = search needs
+
+add-if2 : tie.Need-add-if2
+add-if2 c = search needs
+
+failed-requires-2 : tie.Need-failed-requires-2
+failed-requires-2 c κs = search needs
+
+returns-2 : tie.Need-returns-2
+returns-2 c = unfold postLow in no _ _ (envelope-past _ (c .before .before .before .before .address .ensures) (c .before .before .before .if1 .left) _ _ (ap₂ (λ (t w : ℕ). t + 2 * w) (c .before .before .before .before .address .ensures) (c .before .before .words-of .ensures)) (c .before .if2 .taken)) (c .failed2 .ensures)
+
+with-envelope-requires : tie.Need-with-envelope-requires
+with-envelope-requires c κs = search needs
+
+post-goes-requires : tie.Need-post-goes-requires
+post-goes-requires c κs = search needs
+
+returns-3 : tie.Need-returns-3
+returns-3 c = unfold postLow in yes _ _ (envelope-in _ (c .before .before .before .before .before .address .ensures) (c .before .before .before .before .if1 .left) _ _ (ap₂ (λ (t w : ℕ). t + 2 * w) (c .before .before .before .before .before .address .ensures) (c .before .before .before .words-of .ensures)) (c .before .before .if2 .left)) (c .post-goes .ensures ∙ ap (λ (d : Cursor). posting (c .before .before .before .before .before .before .args .port) (Posting Length d)) (c .before .with-envelope .ensures ∙ ap (λ (t : ℕ). withEnvelope (c .before .before .before .before .before .before .args .c) (t - 4)) (c .before .before .before .before .before .address .ensures)))
+
+pub post-low-spec : {M : Type 1} → statement M
+post-low-spec =
+    tie.close
+    (tie.spec
+    address-requires
+    failed-requires
+    returns
+    cast-if2
+    words-of-requires
+    mul-if2
+    add-if2
+    failed-requires-2
+    returns-2
+    with-envelope-requires
+    post-goes-requires
+    returns-3)

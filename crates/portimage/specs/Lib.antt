@@ -1,2 +1,0 @@
--- A port in place.
-pub mod Image

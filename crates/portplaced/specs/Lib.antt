@@ -1,2 +1,0 @@
--- A port put in place.
-pub mod Placed

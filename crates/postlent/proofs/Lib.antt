@@ -1,2 +1,0 @@
-pub mod PostLentLaws
-pub mod Determined

@@ -1,0 +1,302 @@
+// A whole line: what it names, with its numbers and its text.
+use crate::line;
+use crate::name;
+use crate::name::Name;
+use crate::name::OnHost;
+use crate::name::OnPort;
+use crate::name::OnStage;
+use crate::value;
+use crate::value::Number;
+use crate::value::Text;
+
+// The largest values of the places that a number can have.
+const BIT: u32 = 1;
+
+const BYTE: u32 = 255;
+
+const WORD: u32 = 65535;
+
+const ANY: u32 = 4294967295;
+
+const LENT: u32 = 262400;
+
+const PEEKED: u32 = 64;
+
+const TIMES: u32 = 100000;
+
+// What stands after a name: some numbers, each with the largest that it may be, and then a text or none.
+// A number that may be left out is 1.
+pub struct Shape {
+    pub count: usize,
+    pub most: [u32; 5],
+    pub left_out: bool,
+    pub text: bool,
+}
+
+// How far a line is read: whether all so far is good, whether another word follows, and where it starts.
+pub struct Place {
+    pub good: bool,
+    pub more: bool,
+    pub at: usize,
+}
+
+// A line that was read.
+pub struct Order {
+    pub name: Name,
+    pub numbers: [u32; 5],
+    pub text: Text,
+}
+
+// Some numbers and no text.
+fn plain(count: usize, most: [u32; 5]) -> Shape {
+    Shape {
+        count,
+        most,
+        left_out: false,
+        text: false,
+    }
+}
+
+// Some numbers and a text.
+fn with_text(count: usize, most: [u32; 5]) -> Shape {
+    Shape {
+        count,
+        most,
+        left_out: false,
+        text: true,
+    }
+}
+
+fn stage_shape(x: OnStage) -> Shape {
+    match x {
+        OnStage::Afresh => plain(0, [0, 0, 0, 0, 0]),
+        OnStage::Memory => plain(1, [LENT, 0, 0, 0, 0]),
+        OnStage::Fill => plain(1, [BYTE, 0, 0, 0, 0]),
+        OnStage::Poke => plain(2, [ANY, WORD, 0, 0, 0]),
+        OnStage::Peek => plain(2, [ANY, PEEKED, 0, 0, 0]),
+    }
+}
+
+fn port_shape(x: OnPort) -> Shape {
+    match x {
+        OnPort::Create => plain(5, [BIT, BIT, BIT, BYTE, BYTE]),
+        OnPort::WriteIp => plain(0, [0, 0, 0, 0, 0]),
+        OnPort::ReadSa => plain(0, [0, 0, 0, 0, 0]),
+        OnPort::WriteSa => plain(1, [WORD, 0, 0, 0, 0]),
+        OnPort::BeginFetch => plain(0, [0, 0, 0, 0, 0]),
+        OnPort::BeginAnswer => with_text(0, [0, 0, 0, 0, 0]),
+        OnPort::BeginUnsolicited => with_text(0, [0, 0, 0, 0, 0]),
+    }
+}
+
+fn host_shape(x: OnHost) -> Shape {
+    match x {
+        OnHost::Begin => plain(5, [BYTE, BYTE, BIT, BYTE, ANY]),
+        OnHost::SaSeen => plain(1, [WORD, 0, 0, 0, 0]),
+        OnHost::TimeIsUp => plain(0, [0, 0, 0, 0, 0]),
+        OnHost::SetUp => plain(1, [ANY, 0, 0, 0, 0]),
+        OnHost::BeginSend => with_text(1, [BIT, 0, 0, 0, 0]),
+        OnHost::BeginTake => plain(0, [0, 0, 0, 0, 0]),
+        OnHost::ClearCommand => plain(0, [0, 0, 0, 0, 0]),
+        OnHost::ClearResponse => plain(0, [0, 0, 0, 0, 0]),
+    }
+}
+
+// How often a step is made, if that is said.
+fn step_shape() -> Shape {
+    Shape {
+        count: 1,
+        most: [TIMES, 0, 0, 0, 0],
+        left_out: true,
+        text: false,
+    }
+}
+
+fn shape_of(x: Name) -> Shape {
+    match x {
+        Name::Nothing => plain(0, [0, 0, 0, 0, 0]),
+        Name::Stage(s) => stage_shape(s),
+        Name::Port(p) => port_shape(p),
+        Name::Host(h) => host_shape(h),
+        Name::Steps(_) => step_shape(),
+        Name::Unknown => plain(0, [0, 0, 0, 0, 0]),
+    }
+}
+
+// Nothing more is read of a line that is no call.
+fn bad() -> Place {
+    Place {
+        good: false,
+        more: false,
+        at: 0,
+    }
+}
+
+// After a word that ends at some place: another follows after a space.
+fn after(line: &[u8], end: usize) -> Place {
+    if end < line.len() {
+        return Place {
+            good: true,
+            more: true,
+            at: end + 1,
+        };
+    }
+    Place {
+        good: true,
+        more: false,
+        at: end,
+    }
+}
+
+// A number read, and the place after it.
+struct Counted {
+    value: u32,
+    place: Place,
+}
+
+fn uncounted() -> Counted {
+    let place = bad();
+    Counted { value: 0, place }
+}
+
+fn number_at(line: &[u8], place: Place, most: u32) -> Counted {
+    let at = place.at;
+    if !place.more {
+        return uncounted();
+    }
+    if line.len() < at {
+        return uncounted();
+    }
+    let end = line::next_of(line, at, b' ');
+    let n = value::number_in(&line[at..end]);
+    let Number::Is(v) = n else {
+        return uncounted();
+    };
+    if most < v {
+        return uncounted();
+    }
+    let place = after(line, end);
+    Counted { value: v, place }
+}
+
+// The numbers of a shape, and the place after them.
+pub struct Numbers {
+    pub values: [u32; 5],
+    pub place: Place,
+}
+
+fn numbers_at(line: &[u8], start: Place, shape: Shape) -> Numbers {
+    let most = shape.most;
+    let mut values = [1u32; 5];
+    let mut place = start;
+    let mut i = 0;
+    while i < 5 {
+        if i < shape.count {
+            let n = number_at(line, place, most[i]);
+            values[i] = n.value;
+            place = n.place;
+        }
+        i += 1;
+    }
+    Numbers { values, place }
+}
+
+// A text read, and the place after it.
+struct Written {
+    text: Text,
+    place: Place,
+}
+
+fn unwritten() -> Written {
+    let text = value::no_text();
+    let place = bad();
+    Written { text, place }
+}
+
+fn text_at(line: &[u8], place: Place) -> Written {
+    let at = place.at;
+    if !place.more {
+        return unwritten();
+    }
+    if line.len() < at {
+        return unwritten();
+    }
+    let end = line::next_of(line, at, b' ');
+    let text = value::text_in(&line[at..end]);
+    if !text.good {
+        return unwritten();
+    }
+    let place = after(line, end);
+    Written { text, place }
+}
+
+// A text where the shape has one.
+fn text_if(line: &[u8], place: Place, wanted: bool) -> Written {
+    if wanted {
+        return text_at(line, place);
+    }
+    let text = value::no_text();
+    Written { text, place }
+}
+
+// A line without arguments.
+fn alone(name: Name) -> Order {
+    let numbers = [1u32; 5];
+    let text = value::no_text();
+    Order {
+        name,
+        numbers,
+        text,
+    }
+}
+
+// What follows a name is read by the name's shape, up to the line's end.
+fn read(line: &[u8], name: Name, start: Place) -> Order {
+    let mut shape = shape_of(name);
+    if shape.left_out {
+        if !start.more {
+            shape.count = 0;
+        }
+    }
+    let n = numbers_at(line, start, shape);
+    let numbers = n.values;
+    let w = text_if(line, n.place, shape.text);
+    let text = w.text;
+    let end = w.place;
+    if !end.good {
+        return alone(Name::Unknown);
+    }
+    if end.more {
+        return alone(Name::Unknown);
+    }
+    Order {
+        name,
+        numbers,
+        text,
+    }
+}
+
+// The order that a line is.
+pub fn order_of(line: &[u8]) -> Order {
+    if line.len() == 0 {
+        return alone(Name::Nothing);
+    }
+    if line[0] == b'#' {
+        return alone(Name::Nothing);
+    }
+    let from = 0;
+    let end = line::next_of(line, from, b' ');
+    let name = name::name_of(&line[from..end]);
+    let start = after(line, end);
+    read(line, name, start)
+}
+
+// A line of numbers alone, each with the largest that it may be; good if the place after them is the line's end.
+pub fn numbers_of(line: &[u8], count: usize, most: [u32; 5]) -> Numbers {
+    let start = Place {
+        good: true,
+        more: true,
+        at: 0,
+    };
+    numbers_at(line, start, plain(count, most))
+}

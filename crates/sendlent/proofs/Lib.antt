@@ -1,2 +1,0 @@
-pub mod SendLentLaws
-pub mod Determined

@@ -1,2 +1,0 @@
--- The send side in place.
-pub mod Sending

@@ -1,2 +1,0 @@
-pub mod TakeLentLaws
-pub mod Determined
