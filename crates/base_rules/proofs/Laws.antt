@@ -1,10 +1,11 @@
 -- The ways through the two rules, and what the credit rule adds up to. Assumes nothing.
 use Prim.Native.Nat.{ℕ, _+_, _-_, _<_, _≤_}
-use mathlib.Core.Path.{_≡_}
+use mathlib.Core.Path.{_≡_, sym, ap₂, _∙_}
 use native.Mathlib.Omega.{arith}
 use borrow.Author.Tests.{le-leb, lt-leb, eq-eqb, ne-eqb}
 use Rattle.base_answers.specs.declared.Fatal.the-variants.{InvalidConnection, Incompatible}
 use Rattle.base_rules.specs.Rules.{faultOf, carriedOf, leftOf}
+use Rattle.base_rules.specs.declared.Fault.{Fault}
 use Rattle.base_rules.specs.declared.Fault.the-variants.{Sound, Unsound}
 
 module _ (k c s : ℕ) where
@@ -49,3 +50,7 @@ carried-bounds g = omega arith
 pub nothing-lost : (g : ℕ) → carriedOf g + leftOf g ≡ g + 1
 unfolding leftOf carriedOf
 nothing-lost g = omega arith
+
+-- What is wrong with an envelope, from the parts that a caller reads off its header.
+pub fault-is : (n : ℕ) {j j′ k k′ : ℕ} {x y : Fault} → j ≡ j′ → k ≡ k′ → x ≡ faultOf j k n → x ≡ y → faultOf j′ k′ n ≡ y
+fault-is n e f g h = ap₂ (λ (j k : ℕ). faultOf j k n) (sym e) (sym f) ∙ (sym g ∙ h)

@@ -1,14 +1,15 @@
 -- The ways through the host's handshake. Assumes nothing.
 use Prim.Native.Nat.{ℕ, _%_, _^_, _<_, _≤_}
-use mathlib.Core.Path.{_≡_, ap, _∙_}
+use mathlib.Core.Path.{_≡_, refl, sym, ap, _∙_}
 use mathlib.Core.Bool.{Bool, true, false}
 use lib.Dec.{ltb, eqb}
 use borrow.Author.Tests.{le-leb, lt-leb, eq-eqb, ne-eqb}
 use Rattle.base_words.specs.Fields.{of, isSet, er, stepBits, echo, fatalCode, upper, lower}
 use Rattle.base_words.specs.Words.{firstWord, secondWord, thirdWord}
+use Rattle.base_texts.specs.Texts.{zeros}
 use Rattle.base_area.specs.declared.Area.{Area}
 use Rattle.host_state.specs.State.{withShake, fresh}
-use Rattle.host_state.specs.Shake.{Turn, asksOf, turned, writesIp, writesSa, waiting, dead, none, portFatal, refused, accepts, areaOf, begun, bitOf, oldOf, echoes, reply, onwardFrom, mishap, expecting, saSeen, timeUp}
+use Rattle.host_state.specs.Shake.{asksOf, turnBy, turn, writesIp, writesSa, waiting, dead, none, portFatal, refuses, accepts, areaOf, begun, bitOf, oldOf, echoes, reply, onwardFrom, mishap, expecting, saSeen, timeUp}
 use Rattle.host_state.specs.declared.state.Act.{Act}
 use Rattle.host_state.specs.declared.state.Act.the-variants.{WriteSa}
 use Rattle.host_state.specs.declared.state.Beginning.{Beginning}
@@ -18,10 +19,13 @@ use Rattle.host_state.specs.declared.state.Shake.{Shake}
 use Rattle.host_state.specs.declared.state.Shake.the-variants.{Dead, Expect, Finished}
 use Rattle.host_state.specs.declared.state.Host.{Host}
 use Rattle.host_state.specs.declared.state.Shaken.{Shaken}
-use Rattle.host_state.proofs.StateLaws.{cond-yes, cond-no}
+use Rattle.base_side.proofs.StepLaws.{yes, no}
 
 -- what is asked, by a host that was changed first
-pub asked-by : {h h′ : Host} {a : Act} {r : Shaken} → h ≡ h′ → r ≡ record { act = a; host = h } → turned r ≡ record { asks = asksOf a; state = h′ }
+abbrev shaken : Act → Host → Shaken
+shaken a h = record { act = a; size = 0; bytes = zeros; host = h }
+
+pub asked-by : {h h′ : Host} {a : Act} {r : Shaken} → h ≡ h′ → r ≡ shaken a h → turnBy r ≡ turn (asksOf a) h′
 asked-by e q = rw (q, e)
 
 -- whether settings are good, test by test
@@ -64,46 +68,46 @@ module _ (a : Area) (w : ℕ) {s : Step} {x y : ℕ} (q : x ≡ of echo w) where
 -- the beginning
 module _ (n : ℕ) (h : Host) (b : Beginning) where
   pub begun-yes : {a : Area} {h′ : Host} → true ≡ accepts n b → a ≡ areaOf b → h′ ≡ fresh (Expect One false) a
-      → _≡_ {A = Turn} (record { asks = writesIp; state = h′ }) (begun n h b)
+      → turn writesIp h′ ≡ begun n h b
   unfolding begun
-  begun-yes t e q = ap (λ (x : Host). record { asks = writesIp; state = x }) (q ∙ ap (fresh (Expect One false)) e) ∙ cond-yes _ _ t
+  begun-yes t e q = ap (turn writesIp) (q ∙ ap (fresh (Expect One false)) e) ∙ yes _ _ (sym t) refl
 
-  pub begun-no : false ≡ accepts n b → record { asks = refused 11; state = h } ≡ begun n h b
+  pub begun-no : false ≡ accepts n b → turn (refuses 11) h ≡ begun n h b
   unfolding begun
-  begun-no t = cond-no _ _ t
+  begun-no t = no _ _ (sym t) refl
 
 -- something went wrong, the first time and the second
 module _ (h : Host) {b : Bool} where
-  pub stumbles-once : b ≡ false → record { asks = writesIp; state = withShake h (Expect One true) } ≡ mishap h b
+  pub stumbles-once : b ≡ false → turn writesIp (withShake h (Expect One true)) ≡ mishap h b
   stumbles-once k = rw k
 
-  pub stumbles-dead : b ≡ true → record { asks = dead; state = withShake h Dead } ≡ mishap h b
+  pub stumbles-dead : b ≡ true → turn dead (withShake h Dead) ≡ mishap h b
   stumbles-dead k = rw k
 
 -- the expected step's answer
 pub answers-is : (h : Host) (s : Step) (b : Bool) {v : ℕ} {x : Shake} {h′ : Host} {r : Shaken} → v ≡ reply (h .area) s → x ≡ onwardFrom s b → h′ ≡ withShake h x
-    → r ≡ record { act = WriteSa v; host = h′ } → r ≡ record { act = WriteSa (reply (h .area) s); host = withShake h (onwardFrom s b) }
-answers-is h s b p q e k = k ∙ (λ i. record { act = WriteSa (p i); host = (e ∙ ap (withShake h) q) i })
+    → r ≡ shaken (WriteSa v) h′ → turnBy r ≡ turn (writesSa (reply (h .area) s)) (withShake h (onwardFrom s b))
+answers-is h s b p q e k = ap turnBy k ∙ (λ i. turn (writesSa (p i)) ((e ∙ ap (withShake h) q) i))
 
 -- a word of SA while a step is expected
 module _ (h : Host) (s : Step) (b : Bool) (w : ℕ) where
   pub expects-error : true ≡ isSet er w → mishap h b ≡ expecting h s b w
   unfolding expecting
-  expects-error e = cond-yes _ _ e
+  expects-error e = yes _ _ (sym e) refl
 
   module _ (e : false ≡ isSet er w) {x : ℕ} (q : x ≡ of stepBits w) where
-    pub expects-none : x ≡ 0 → record { asks = waiting; state = h } ≡ expecting h s b w
+    pub expects-none : x ≡ 0 → turn waiting h ≡ expecting h s b w
     unfolding expecting
     expects-none z = rw (← e, ← q, eq-eqb x 0 z)
 
     module _ (z : x ≡ 0 → ⊥) {o : ℕ} (p : o ≡ oldOf s) where
-      pub expects-old : x ≡ o → record { asks = waiting; state = h } ≡ expecting h s b w
+      pub expects-old : x ≡ o → turn waiting h ≡ expecting h s b w
       unfolding expecting
       expects-old k = rw (← e, ← q, ne-eqb x 0 z, ← p, eq-eqb x o k)
 
       module _ (y : x ≡ o → ⊥) {k : ℕ} (l : k ≡ bitOf s) where
         pub expects-step : x ≡ k → true ≡ echoes (h .area) s w
-            → record { asks = writesSa (reply (h .area) s); state = withShake h (onwardFrom s b) } ≡ expecting h s b w
+            → turn (writesSa (reply (h .area) s)) (withShake h (onwardFrom s b)) ≡ expecting h s b w
         unfolding expecting
         expects-step f g = rw (← e, ← q, ne-eqb x 0 z, ← p, ne-eqb x o y, ← l, eq-eqb x k f, ← g)
 
@@ -117,7 +121,7 @@ module _ (h : Host) (s : Step) (b : Bool) (w : ℕ) where
 
 -- a word of SA, and time is up
 module _ (h : Host) (w : ℕ) where
-  pub saw-dead : h .shake ≡ Dead → record { asks = dead; state = h } ≡ saSeen h w
+  pub saw-dead : h .shake ≡ Dead → turn dead h ≡ saSeen h w
   unfolding saSeen
   saw-dead e = rw e
 
@@ -125,16 +129,16 @@ module _ (h : Host) (w : ℕ) where
   unfolding saSeen
   saw-expecting e = rw e
 
-  pub saw-error : {x : ℕ} → h .shake ≡ Finished → true ≡ isSet er w → x ≡ of fatalCode w → record { asks = portFatal x; state = h } ≡ saSeen h w
+  pub saw-error : {x : ℕ} → h .shake ≡ Finished → true ≡ isSet er w → x ≡ of fatalCode w → turn (portFatal x) h ≡ saSeen h w
   unfolding saSeen
   saw-error e t q = rw (e, ← t, q)
 
-  pub saw-none : h .shake ≡ Finished → false ≡ isSet er w → record { asks = none; state = h } ≡ saSeen h w
+  pub saw-none : h .shake ≡ Finished → false ≡ isSet er w → turn none h ≡ saSeen h w
   unfolding saSeen
   saw-none e t = rw (e, ← t)
 
 module _ (h : Host) where
-  pub late-dead : h .shake ≡ Dead → record { asks = dead; state = h } ≡ timeUp h
+  pub late-dead : h .shake ≡ Dead → turn dead h ≡ timeUp h
   unfolding timeUp
   late-dead e = rw e
 
@@ -142,6 +146,6 @@ module _ (h : Host) where
   unfolding timeUp
   late-expecting e = rw e
 
-  pub late-none : h .shake ≡ Finished → record { asks = none; state = h } ≡ timeUp h
+  pub late-none : h .shake ≡ Finished → turn none h ≡ timeUp h
   unfolding timeUp
   late-none e = rw e

@@ -2,8 +2,7 @@
 ghost use mathlib.Core.Path.{_≡_};
 ghost use Rattle.base_words.specs.Words.{addressBits};
 ghost use Rattle.host_state.specs.State.{withShake};
-ghost use Rattle.host_state.specs.declared.state.Act.the-variants.{WriteSa};
-ghost use Rattle.host_state.specs.Shake.{turned, accepts, areaOf, begun, bitOf, oldOf, echoes, reply, onwardFrom, mishap, expecting, saSeen, timeUp};
+ghost use Rattle.host_state.specs.Shake.{turnBy, turn, writesSa, accepts, areaOf, begun, bitOf, oldOf, echoes, reply, onwardFrom, mishap, expecting, saSeen, timeUp};
 use base_answers::Refusal;
 use base_area::Area;
 use base_words::hostword;
@@ -106,7 +105,7 @@ fn after_step(step: Step, retried: bool) -> Shake
 
 // Begins the handshake, forgetting all else; bad settings are refused and change nothing.
 pub fn begin(host: Host, b: Beginning) -> Shaken
-    ensures { λ r. ⌜ turned r ≡ begun addressBits host b ⌝ }
+    ensures { λ r. ⌜ turnBy r ≡ begun addressBits host b ⌝ }
 {
     if accepted(b) {
         let host = Host::fresh_at(Shake::Expect(Step::One, false), area_of(b));
@@ -117,7 +116,7 @@ pub fn begin(host: Host, b: Beginning) -> Shaken
 
 // Something went wrong: IP is written once more; the second time the port is dead.
 fn stumbles(host: Host, retried: bool) -> Shaken
-    ensures { λ r. ⌜ turned r ≡ mishap host retried ⌝ }
+    ensures { λ r. ⌜ turnBy r ≡ mishap host retried ⌝ }
 {
     if retried {
         host.with_shake(Shake::Dead).asks(Act::IsDead)
@@ -129,7 +128,7 @@ fn stumbles(host: Host, retried: bool) -> Shaken
 
 // The expected step has come: the host writes its word.
 fn answers(host: Host, step: Step, retried: bool) -> Shaken
-    ensures { λ r. ⌜ r ≡ record { act = WriteSa (reply (host .area) step); host = withShake host (onwardFrom step retried) } ⌝ }
+    ensures { λ r. ⌜ turnBy r ≡ turn (writesSa (reply (host .area) step)) (withShake host (onwardFrom step retried)) ⌝ }
 {
     let area = host.area;
     let word = word_for(area, step);
@@ -139,7 +138,7 @@ fn answers(host: Host, step: Step, retried: bool) -> Shaken
 
 // A word of SA while a step is expected.
 fn expects(host: Host, step: Step, retried: bool, sa: u16) -> Shaken
-    ensures { λ r. ⌜ turned r ≡ expecting host step retried sa ⌝ }
+    ensures { λ r. ⌜ turnBy r ≡ expecting host step retried sa ⌝ }
 {
     if shown::error(sa) {
         return stumbles(host, retried);
@@ -162,7 +161,7 @@ fn expects(host: Host, step: Step, retried: bool, sa: u16) -> Shaken
 
 // A word of SA seen.
 pub fn sa_seen(host: Host, sa: u16) -> Shaken
-    ensures { λ r. ⌜ turned r ≡ saSeen host sa ⌝ }
+    ensures { λ r. ⌜ turnBy r ≡ saSeen host sa ⌝ }
 {
     let shake = host.shake;
     match shake {
@@ -172,7 +171,7 @@ pub fn sa_seen(host: Host, sa: u16) -> Shaken
             if shown::error(sa) {
                 host.asks(Act::PortFailed(shown::code(sa)))
             } else {
-                host.asks(Act::Nothing)
+                host.asks(Act::None)
             }
         }
     }
@@ -180,12 +179,12 @@ pub fn sa_seen(host: Host, sa: u16) -> Shaken
 
 // Time is up.
 pub fn time_is_up(host: Host) -> Shaken
-    ensures { λ r. ⌜ turned r ≡ timeUp host ⌝ }
+    ensures { λ r. ⌜ turnBy r ≡ timeUp host ⌝ }
 {
     let shake = host.shake;
     match shake {
         Shake::Dead => host.asks(Act::IsDead),
         Shake::Expect(_, retried) => stumbles(host, retried),
-        Shake::Finished => host.asks(Act::Nothing),
+        Shake::Finished => host.asks(Act::None),
     }
 }

@@ -1,8 +1,9 @@
 // What the host does to its area outside the two sides: the setup, and the clearing of an indicator.
 ghost use mathlib.Core.Path.{_≡_};
 ghost use Rattle.base_words.specs.Words.{addressBits};
-ghost use Rattle.host_state.specs.State.{seen};
-ghost use Rattle.host_state.specs.Setup.{idleSend, idleTake, readied, setUpBy, indicatorCleared};
+ghost use Rattle.base_side.specs.Step.{with-memory};
+ghost use Rattle.host_state.specs.State.{nextBy};
+ghost use Rattle.host_state.specs.Setup.{madeReady, clearFollows, setUpBy, indicatorCleared};
 use base_answers::Refusal;
 use base_answers::Said;
 use base_area::Ring;
@@ -10,38 +11,18 @@ use base_memory::Word;
 use host_state::state;
 use host_state::state::Counts;
 use host_state::state::Host;
-use host_state::state::Sender;
 use host_state::state::Stepped;
-use host_state::state::Taker;
-
-// Whether a side has nothing to do.
-fn sender_idle(s: Sender) -> bool
-    ensures { λ r. ⌜ r ≡ idleSend s ⌝ }
-{
-    match s {
-        Sender::NoSend => true,
-        Sender::Sending(_, _) => false,
-    }
-}
-
-fn taker_idle(t: Taker) -> bool
-    ensures { λ r. ⌜ r ≡ idleTake t ⌝ }
-{
-    match t {
-        Taker::NoTake => true,
-        Taker::Taking(_, _) => false,
-    }
-}
 
 // The host with a pool, both indices 0 and one credit.
 fn made_ready(host: Host, pool: u32) -> Host
-    ensures { λ r. ⌜ r ≡ readied host pool ⌝ }
+    ensures { λ r. ⌜ r ≡ madeReady host pool ⌝ }
 {
     let shake = host.shake;
     let area = host.area;
     let sender = host.sender;
     let taker = host.taker;
     let outgoing = host.outgoing;
+    let asked = host.asked;
     let incoming = host.incoming;
     Host {
         shake,
@@ -51,7 +32,9 @@ fn made_ready(host: Host, pool: u32) -> Host
         sender,
         taker,
         outgoing,
+        asked,
         incoming,
+        credits: host.credits,
         counts: Counts {
             send: 0,
             take: 0,
@@ -62,40 +45,47 @@ fn made_ready(host: Host, pool: u32) -> Host
 
 // Sets rings and pool up. It comes before any run, and is the one host call that writes more than a word.
 pub fn set_up(host: Host, pool: u32, mem: &mut [u8]) -> Stepped
-    ensures { λ r. ⌜ seen r (now (mem .exit)) ≡ setUpBy addressBits host pool (now (mem .entry)) ⌝ }
+    ensures { λ r. ⌜ with-memory (nextBy r) (now (mem .exit)) ≡ setUpBy addressBits host pool (now (mem .entry)) ⌝ }
 {
     let shake = host.shake;
     let sender = host.sender;
     let taker = host.taker;
     let area = host.area;
     if !state::finished(shake) {
-        return host.said(Said::Refused(Refusal::NotRunning));
+        return host.replies(Said::Refused(Refusal::NotRunning));
     }
-    if !sender_idle(sender) {
-        return host.said(Said::Refused(Refusal::Busy));
+    if !sender.is_idle() {
+        return host.replies(Said::Refused(Refusal::Busy));
     }
-    if !taker_idle(taker) {
-        return host.said(Said::Refused(Refusal::Busy));
+    if !taker.is_idle() {
+        return host.replies(Said::Refused(Refusal::Busy));
     }
     if !base_area::setup::fits_in(area, pool, base_memory::usable_of(mem)) {
-        return host.said(Said::Refused(Refusal::DoesNotFit));
+        return host.replies(Said::Refused(Refusal::DoesNotFit));
     }
     base_area::setup::set_up(area, pool, mem);
-    made_ready(host, pool).said(Said::Done)
+    made_ready(host, pool).replies(Said::Done)
+}
+
+// What follows from the write of an indicator.
+fn clear_follows(host: Host, w: Word) -> Stepped
+    ensures { λ r. ⌜ nextBy r ≡ clearFollows host w ⌝ }
+{
+    match w {
+        Word::Outside => host.replies(Said::Refused(Refusal::DoesNotFit)),
+        Word::Value(_) => host.replies(Said::Done),
+    }
 }
 
 // Clears a ring's indicator.
 pub fn clear_indicator(host: Host, ring: Ring, mem: &mut [u8]) -> Stepped
-    ensures { λ r. ⌜ seen r (now (mem .exit)) ≡ indicatorCleared addressBits host ring (now (mem .entry)) ⌝ }
+    ensures { λ r. ⌜ with-memory (nextBy r) (now (mem .exit)) ≡ indicatorCleared addressBits host ring (now (mem .entry)) ⌝ }
 {
     let shake = host.shake;
     let area = host.area;
     if !state::finished(shake) {
-        return host.said(Said::Refused(Refusal::NotRunning));
+        return host.replies(Said::Refused(Refusal::NotRunning));
     }
     let w = base_memory::touched(mem, area.indicator_write(ring, 0));
-    match w {
-        Word::Outside => host.said(Said::Refused(Refusal::DoesNotFit)),
-        Word::Value(_) => host.said(Said::Done),
-    }
+    clear_follows(host, w)
 }

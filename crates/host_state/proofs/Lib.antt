@@ -1,3 +1,4 @@
 pub mod StateLaws
+pub mod SideLaws
 pub mod EffectLaws
 pub mod Determined

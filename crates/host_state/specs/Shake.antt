@@ -1,9 +1,11 @@
 -- The host's handshake: its beginning, a word of SA seen, time is up. Document 01, "Handshake", last paragraph.
 use Prim.Native.Nat.{ℕ, _%_, _^_}
 use mathlib.Core.Bool.{Bool, true, false, cond, _&&_, _||_}
+use mathlib.Core.List.{List}
 use lib.Dec.{leb, ltb, eqb}
 use Rattle.base_words.specs.Fields.{of, isSet, er, stepBits, echo, fatalCode, upper, lower}
 use Rattle.base_words.specs.Words.{firstWord, secondWord, thirdWord, goWord}
+use Rattle.base_texts.specs.Texts.{zeros}
 use Rattle.base_answers.specs.Told.{refusalNumber}
 use Rattle.base_area.specs.declared.Area.{Area}
 use Rattle.host_state.specs.State.{withShake, fresh}
@@ -13,7 +15,7 @@ use Rattle.host_state.specs.declared.state.Step.the-variants.{One, Two, 
 use Rattle.host_state.specs.declared.state.Shake.{Shake}
 use Rattle.host_state.specs.declared.state.Shake.the-variants.{Dead, Expect, Finished}
 use Rattle.host_state.specs.declared.state.Act.{Act}
-use Rattle.host_state.specs.declared.state.Act.the-variants.{WriteIp, WriteSa, Waiting, IsDead, Nothing, PortFailed, Denied}
+use Rattle.host_state.specs.declared.state.Act.the-variants.{WriteIp, WriteSa, Waiting, IsDead, None, PortFailed, Denied}
 use Rattle.host_state.specs.declared.state.Host.{Host}
 use Rattle.host_state.specs.declared.state.Shaken.{Shaken}
 
@@ -26,24 +28,30 @@ pub data Asks : Type 0 where
   dead : Asks
   none : Asks
   portFatal : ℕ → Asks
-  refused : ℕ → Asks
+  refuses : ℕ → Asks
 
 abbrev pub asksOf : Act → Asks
 asksOf WriteIp = writesIp
 asksOf (WriteSa w) = writesSa w
 asksOf Waiting = waiting
 asksOf IsDead = dead
-asksOf Nothing = none
+asksOf None = none
 asksOf (PortFailed x) = portFatal x
-asksOf (Denied r) = refused (refusalNumber r)
+asksOf (Denied r) = refuses (refusalNumber r)
 
--- What a handshake call leaves.
+-- What a handshake call leaves: what it asks, the length and the 60 bytes that every answer has, and the next state.
 pub record Turn : Type 0 where
   pub asks : Asks
+  pub size : ℕ
+  pub bytes : List ℕ
   pub state : Host
 
-abbrev pub turned : Shaken → Turn
-turned r = record { asks = asksOf (r .act); state = r .host }
+abbrev pub turnBy : Shaken → Turn
+turnBy r = record { asks = asksOf (r .act); size = r .size; bytes = r .bytes; state = r .host }
+
+-- No call of the handshake carries a text: "length 0 and 60 zero bytes".
+abbrev pub turn : Asks → Host → Turn
+turn x h = record { asks = x; size = 0; bytes = zeros; state = h }
 
 -- A new host half: every word answers Dead until its first beginning.
 abbrev pub newHost : Host
@@ -59,7 +67,7 @@ areaOf b = record { first = firstWord (b .command) (b .response) (b .interrupts)
 
 -- "The host half begins, at any time and forgetting all else, by writing IP". Refused, it changes nothing at all.
 unfoldable pub begun : ℕ → Host → Beginning → Turn
-begun n h b = cond (accepts n b) (record { asks = writesIp; state = fresh (Expect One false) (areaOf b) }) (record { asks = refused 11; state = h })
+begun n h b = cond (accepts n b) (turn writesIp (fresh (Expect One false) (areaOf b))) (turn (refuses 11) h)
 
 -- The bit of a step among SA's four step bits, and the old step's; while Step 1 is expected there is no old step.
 abbrev pub bitOf : Step → ℕ
@@ -96,8 +104,8 @@ onwardFrom Four b = Finished
 
 -- "makes it write IP once more; the second such event answers Dead".
 abbrev pub mishap : Host → Bool → Turn
-mishap h false = record { asks = writesIp; state = withShake h (Expect One true) }
-mishap h true = record { asks = dead; state = withShake h Dead }
+mishap h false = turn writesIp (withShake h (Expect One true))
+mishap h true = turn dead (withShake h Dead)
 
 -- A word of SA while a step is expected.
 unfoldable pub expecting : Host → Step → Bool → ℕ → Turn
@@ -105,24 +113,24 @@ expecting h s b w =
     cond (isSet er w)
     (mishap h b)
     (cond (eqb (of stepBits w) 0 || eqb (of stepBits w) (oldOf s))
-    (record { asks = waiting; state = h })
+    (turn waiting h)
     (cond (eqb (of stepBits w) (bitOf s) && echoes (h .area) s w)
-    (record { asks = writesSa (reply (h .area) s); state = withShake h (onwardFrom s b) })
+    (turn (writesSa (reply (h .area) s)) (withShake h (onwardFrom s b)))
     (mishap h b)))
 
 -- "then a word with ER names fatal x (bits 10-0), any other answers None".
 abbrev pub sawBy : Host → ℕ → Shake → Turn
-sawBy h w Dead = record { asks = dead; state = h }
+sawBy h w Dead = turn dead h
 sawBy h w (Expect s b) = expecting h s b w
-sawBy h w Finished = record { asks = cond (isSet er w) (portFatal (of fatalCode w)) none; state = h }
+sawBy h w Finished = turn (cond (isSet er w) (portFatal (of fatalCode w)) none) h
 
 unfoldable pub saSeen : Host → ℕ → Turn
 saSeen h w = sawBy h w (h .shake)
 
 abbrev pub lateBy : Host → Shake → Turn
-lateBy h Dead = record { asks = dead; state = h }
+lateBy h Dead = turn dead h
 lateBy h (Expect s b) = mishap h b
-lateBy h Finished = record { asks = none; state = h }
+lateBy h Finished = turn none h
 
 -- "time is up".
 unfoldable pub timeUp : Host → Turn

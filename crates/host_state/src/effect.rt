@@ -1,11 +1,19 @@
 // "The high-word write is where index, account and totals change and the operation has its effect."
 ghost use mathlib.Core.Path.{_≡_};
+ghost use Prim.Native.Nat.{_+_};
 ghost use Rattle.host_state.specs.Send.{sent};
 ghost use Rattle.host_state.specs.Take.{taken};
 use crate::state::Counts;
-use crate::state::Cursor;
 use crate::state::Host;
 use base_area::Ring;
+use base_side::Cursor;
+
+// Two bytes added.
+fn sum_of(a: u8, b: u8) -> u16
+    ensures { λ r. ⌜ r ≡ a + b ⌝ }
+{
+    a as u16 + b as u16
+}
 
 impl Host {
     // The slot is given to the port: the next slot is the send side's, and a credit is spent.
@@ -28,7 +36,7 @@ impl Host {
         ensures { λ r. ⌜ r ≡ taken self c ⌝ }
     {
         let area = self.area;
-        let sum = self.counts.account as u16 + c.credits as u16;
+        let sum = sum_of(self.counts.account, self.credits);
         let account = if sum < base_rules::MOST_ACCOUNT {
             sum as u8
         } else {

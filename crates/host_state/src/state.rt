@@ -1,11 +1,19 @@
 ghost use mathlib.Core.Path.{_≡_};
 ghost use mathlib.Core.Bool.{false};
-ghost use Rattle.base_answers.specs.Told.{bareReply};
-ghost use Rattle.host_state.specs.State.{isFinished, isReady, withShake, withSender, withTaker, withOutgoing, withIncoming, withCounts, fresh, startOf, withHigh, withSize, withAt, withCredits};
+ghost use Rattle.base_texts.specs.Texts.{zeros};
+ghost use Rattle.base_answers.specs.Told.{bareReply, refusalNumber};
+ghost use Rattle.base_side.specs.Step.{onward};
+ghost use Rattle.host_state.specs.State.{nextBy, isFinished, isReady, envelopeOf, withShake, withSender, withTaker, withSide, withOutgoing, withIncoming, withCounts, fresh};
+ghost use Rattle.host_state.specs.Side.{isIdle, textOrClosing, refuse};
 use base_answers::Refusal;
 use base_answers::Reply;
 use base_answers::Said;
 use base_area::Area;
+use base_area::Ring;
+use base_side::Cursor;
+
+// The last address of 32 bits.
+const MOST_ADDRESS: usize = 4294967295;
 
 // What a beginning is given: exponents, IE, vector/4 and the ring base.
 pub struct Beginning {
@@ -37,7 +45,7 @@ pub enum Act {
     WriteSa(u16),
     Waiting,
     IsDead,
-    Nothing,
+    None,
     PortFailed(u16),
     Denied(Refusal),
 }
@@ -47,45 +55,21 @@ pub struct Asked {
     pub flag: bool,
 }
 
-// What a send does next: which word of the slot or the envelope it touches.
-pub enum SendStage {
-    Look,
+// What a send or a take does next: which word of the slot or the envelope it touches. Closing is the word before the high word:
+// a send's low word, a take's 60 as length.
+pub enum Stage {
+    High,
     Length,
     Header,
     Text,
-    Low,
-    Give,
+    Closing,
+    Release,
 }
 
-// What a take does next.
-pub enum TakeStage {
-    Look,
-    Length,
-    Header,
-    Text,
-    Refill,
-    Give,
-}
-
-// Where an operation stands: its slot, that slot's high word as read, the text's length, the next text word,
-// the flag of a send, and the credits of a take.
-pub struct Cursor {
-    pub high: u16,
-    pub size: u16,
-    pub at: u16,
-    pub slot: u8,
-    pub credits: u8,
-    pub flag: bool,
-}
-
-pub enum Sender {
-    NoSend,
-    Sending(SendStage, Cursor),
-}
-
-pub enum Taker {
-    NoTake,
-    Taking(TakeStage, Cursor),
+// "A half has two sides, each with at most one operation": the send side and the take side.
+pub enum Side {
+    Idle,
+    At(Stage, Cursor),
 }
 
 // The next slot of each side, and the credit account.
@@ -95,16 +79,19 @@ pub struct Counts {
     pub account: u8,
 }
 
-// The host. The texts stand beside the sides: an enum holds no array.
+// The host. The texts stand beside the sides, since an enum holds no array; with the text of a send what it was asked, with
+// the text of a take the credits that its envelope carries.
 pub struct Host {
     pub shake: Shake,
     pub area: Area,
     pub pool: u32,
     pub ready: bool,
-    pub sender: Sender,
-    pub taker: Taker,
+    pub sender: Side,
+    pub taker: Side,
     pub outgoing: [u8; 60],
+    pub asked: Asked,
     pub incoming: [u8; 60],
+    pub credits: u8,
     pub counts: Counts,
 }
 
@@ -114,9 +101,11 @@ pub struct Stepped {
     pub host: Host,
 }
 
-// What a handshake call asks, and the host after it.
+// What a handshake call asks, the length and the 60 bytes that every answer has, and the host after it.
 pub struct Shaken {
     pub act: Act,
+    pub size: u16,
+    pub bytes: [u8; 60],
     pub host: Host,
 }
 
@@ -131,47 +120,26 @@ pub fn finished(shake: Shake) -> bool
     }
 }
 
-impl Cursor {
-    // An operation at its beginning.
-    pub fn start(slot: u8, size: u16, flag: bool) -> Cursor
-        ensures { λ r. ⌜ r ≡ startOf slot size flag ⌝ }
+impl Side {
+    // Whether the side has no operation.
+    pub fn is_idle(self) -> bool
+        ensures { λ r. ⌜ r ≡ isIdle self ⌝ }
     {
-        Cursor {
-            slot,
-            high: 0,
-            size,
-            at: 0,
-            flag,
-            credits: 0,
+        match self {
+            Side::Idle => true,
+            Side::At(_, _) => false,
         }
     }
 
-    pub fn with_high(mut self, x: u16) -> Cursor
-        ensures { λ r. ⌜ r ≡ withHigh self x ⌝ }
+    // Text word k next, or the word before the high word where there is none.
+    pub fn text_or_closing(c: Cursor, k: usize) -> Side
+        ensures { λ r. ⌜ r ≡ textOrClosing c k ⌝ }
     {
-        self.high = x;
-        self
-    }
-
-    pub fn with_size(mut self, x: u16) -> Cursor
-        ensures { λ r. ⌜ r ≡ withSize self x ⌝ }
-    {
-        self.size = x;
-        self
-    }
-
-    pub fn with_at(mut self, x: u16) -> Cursor
-        ensures { λ r. ⌜ r ≡ withAt self x ⌝ }
-    {
-        self.at = x;
-        self
-    }
-
-    pub fn with_credits(mut self, x: u8) -> Cursor
-        ensures { λ r. ⌜ r ≡ withCredits self x ⌝ }
-    {
-        self.credits = x;
-        self
+        if c.has_word(k) {
+            Side::At(Stage::Text, c.with_at(k as u16))
+        } else {
+            Side::At(Stage::Closing, c)
+        }
     }
 }
 
@@ -187,10 +155,12 @@ impl Host {
             area,
             pool: 0,
             ready: false,
-            sender: Sender::NoSend,
-            taker: Taker::NoTake,
+            sender: Side::Idle,
+            taker: Side::Idle,
             outgoing,
+            asked: Asked { flag: false },
             incoming,
+            credits: 0,
             counts: Counts {
                 send: 0,
                 take: 0,
@@ -215,6 +185,7 @@ impl Host {
         let taker = self.taker;
         let outgoing = self.outgoing;
         let incoming = self.incoming;
+        let asked = self.asked;
         let counts = self.counts;
         Host {
             shake: x,
@@ -224,12 +195,14 @@ impl Host {
             sender,
             taker,
             outgoing,
+            asked,
             incoming,
+            credits: self.credits,
             counts,
         }
     }
 
-    pub fn with_sender(self, x: Sender) -> Host
+    pub fn with_sender(self, x: Side) -> Host
         ensures { λ r. ⌜ r ≡ withSender self x ⌝ }
     {
         let shake = self.shake;
@@ -237,6 +210,7 @@ impl Host {
         let taker = self.taker;
         let outgoing = self.outgoing;
         let incoming = self.incoming;
+        let asked = self.asked;
         let counts = self.counts;
         Host {
             shake,
@@ -246,12 +220,14 @@ impl Host {
             sender: x,
             taker,
             outgoing,
+            asked,
             incoming,
+            credits: self.credits,
             counts,
         }
     }
 
-    pub fn with_taker(self, x: Taker) -> Host
+    pub fn with_taker(self, x: Side) -> Host
         ensures { λ r. ⌜ r ≡ withTaker self x ⌝ }
     {
         let shake = self.shake;
@@ -259,6 +235,7 @@ impl Host {
         let sender = self.sender;
         let outgoing = self.outgoing;
         let incoming = self.incoming;
+        let asked = self.asked;
         let counts = self.counts;
         Host {
             shake,
@@ -268,22 +245,38 @@ impl Host {
             sender,
             taker: x,
             outgoing,
+            asked,
             incoming,
+            credits: self.credits,
             counts,
         }
     }
 
-    pub fn with_outgoing(mut self, x: [u8; 60]) -> Host
-        ensures { λ r. ⌜ r ≡ withOutgoing self x ⌝ }
+    // A side by its ring: commands are sent, responses taken.
+    pub fn with_side(self, ring: Ring, x: Side) -> Host
+        ensures { λ r. ⌜ r ≡ withSide self ring x ⌝ }
+    {
+        match ring {
+            Ring::Command => self.with_sender(x),
+            Ring::Response => self.with_taker(x),
+        }
+    }
+
+    // A text to be sent, and what was asked of it.
+    pub fn with_outgoing(mut self, x: [u8; 60], asked: Asked) -> Host
+        ensures { λ r. ⌜ r ≡ withOutgoing self x asked ⌝ }
     {
         self.outgoing = x;
+        self.asked = asked;
         self
     }
 
-    pub fn with_incoming(mut self, x: [u8; 60]) -> Host
-        ensures { λ r. ⌜ r ≡ withIncoming self x ⌝ }
+    // The text of a response so far, and the credits that it carries.
+    pub fn with_incoming(mut self, x: [u8; 60], credits: u8) -> Host
+        ensures { λ r. ⌜ r ≡ withIncoming self x credits ⌝ }
     {
         self.incoming = x;
+        self.credits = credits;
         self
     }
 
@@ -294,18 +287,51 @@ impl Host {
         self
     }
 
+    // Where the envelope of a slot starts.
+    pub fn envelope_of(self, ring: Ring, i: u8) -> u32
+        ensures { λ r. ⌜ r ≡ envelopeOf self ring i ⌝ }
+    {
+        let area = self.area;
+        let a = area.envelope_at(self.pool, ring, i);
+        if a < MOST_ADDRESS {
+            a as u32
+        } else {
+            4294967295
+        }
+    }
+
     // The host with an answer that carries no text.
-    pub fn said(self, said: Said) -> Stepped
+    pub fn replies(self, said: Said) -> Stepped
         ensures { λ r. ⌜ r ≡ record { reply = bareReply said false; host = self } ⌝ }
     {
         let reply = base_answers::bare(said, false);
         Stepped { reply, host: self }
     }
 
-    // The host with what the handshake asks.
-    pub fn asks(self, act: Act) -> Shaken
-        ensures { λ r. ⌜ r ≡ record { act = act; host = self } ⌝ }
+    // A side's operation goes on.
+    pub fn goes(self, ring: Ring, x: Side) -> Stepped
+        ensures { λ r. ⌜ nextBy r ≡ onward (withSide self ring x) ⌝ }
     {
-        Shaken { act, host: self }
+        self.with_side(ring, x).replies(Said::Going)
+    }
+
+    // A side's operation is refused, and ends.
+    pub fn refused(self, ring: Ring, x: Refusal) -> Stepped
+        ensures { λ r. ⌜ nextBy r ≡ refuse self ring (refusalNumber x) ⌝ }
+    {
+        self.with_side(ring, Side::Idle).replies(Said::Refused(x))
+    }
+
+    // The host with what the handshake asks; it carries no text.
+    pub fn asks(self, act: Act) -> Shaken
+        ensures { λ r. ⌜ r ≡ record { act = act; size = 0; bytes = zeros; host = self } ⌝ }
+    {
+        let bytes = base_texts::blank();
+        Shaken {
+            act,
+            size: 0,
+            bytes,
+            host: self,
+        }
     }
 }

@@ -1,2 +1,1 @@
-pub mod TakeLaws
 pub mod Determined

@@ -2,9 +2,9 @@
 ghost use mathlib.Core.Path.{_≡_};
 ghost use Prim.Native.Nat.{_+_};
 ghost use Rattle.base_words.specs.Words.{addressBits};
-ghost use Rattle.port_state.specs.State.{answered, seen, onward, withFetcher};
-ghost use Rattle.port_state.specs.Fetch.{fetchTouch, fetchOutside, refuseFetch, fetchHigh, fetchLow, fetchOn, fetchHeader, fetchText, fetchClosed, fetchRelease, fetchSeen, fetchAfter, fetchTailed, fetchStep, fetchBegun};
-ghost use Rattle.base_answers.specs.Told.{refusalNumber};
+ghost use Rattle.base_side.specs.Step.{with-memory};
+ghost use Rattle.port_state.specs.State.{nextBy};
+ghost use Rattle.port_state.specs.Fetch.{fetchAsks, fetchOutside, fetchHigh, fetchLow, fetchHeader, fetchText, fetchClosed, fetchRelease, fetchFinds, fetchFollows, fetchTailed, fetchStep, fetchBegun};
 use base_answers::Fatal;
 use base_answers::Refusal;
 use base_answers::Said;
@@ -13,22 +13,22 @@ use base_area::Ring;
 use base_memory::Touch;
 use base_memory::Word;
 use base_rules::Fault;
+use base_side::Cursor;
 use base_words::descriptor;
 use base_words::header;
 use port_state::state;
-use port_state::state::Cursor;
-use port_state::state::Fetcher;
 use port_state::state::Port;
-use port_state::state::Site;
+use port_state::state::Serving;
+use port_state::state::Side;
 use port_state::state::Stage;
 use port_state::state::Stepped;
 use port_state::state::TailEnd;
 use port_state::state::TailStage;
 use port_state::tail;
 
-// The word that a stage of a fetch touches.
-fn fetch_touch(area: Area, stage: Stage, c: Cursor) -> Touch
-    ensures { λ r. ⌜ r ≡ fetchTouch addressBits area stage c ⌝ }
+// The word that a stage of a fetch asks for.
+fn fetch_asks(area: Area, stage: Stage, c: Cursor) -> Touch
+    ensures { λ r. ⌜ r ≡ fetchAsks addressBits area stage c ⌝ }
 {
     let slot = area.slot_at(Ring::Command, c.slot);
     let envelope = c.envelope as usize;
@@ -56,53 +56,28 @@ fn fetch_outside(stage: Stage) -> Fatal
     }
 }
 
-// Text word k next, or the release where there is none.
-fn fetch_on(c: Cursor, k: usize) -> Fetcher
-    ensures { λ r. ⌜ r ≡ fetchOn c k ⌝ }
-{
-    if k < base_texts::words_of(c.size) {
-        Fetcher::Fetching(Stage::Text, c.with_at(k as u16))
-    } else {
-        Fetcher::Fetching(Stage::Release, c)
-    }
-}
-
-// The fetch goes on.
-fn fetch_goes(port: Port, x: Fetcher) -> Stepped
-    ensures { λ r. ⌜ answered r ≡ onward (withFetcher port x) ⌝ }
-{
-    port.with_fetcher(x).said(Said::Going)
-}
-
-// The fetch is refused, and ends.
-fn fetch_refused(port: Port, x: Refusal) -> Stepped
-    ensures { λ r. ⌜ answered r ≡ refuseFetch port (refusalNumber x) ⌝ }
-{
-    port.with_fetcher(Fetcher::NoFetch).said(Said::Refused(x))
-}
-
 // The fetch ends with its text.
 fn fetch_closed(port: Port, c: Cursor, interrupt: bool) -> Stepped
-    ensures { λ r. ⌜ answered r ≡ fetchClosed port c interrupt ⌝ }
+    ensures { λ r. ⌜ nextBy r ≡ fetchClosed port c interrupt ⌝ }
 {
     let bytes = port.incoming;
     let reply = base_answers::full(c.size, bytes, interrupt);
-    let port = port.with_fetcher(Fetcher::NoFetch);
+    let port = port.with_fetcher(Side::Idle);
     Stepped { reply, port }
 }
 
 fn fetch_high(port: Port, c: Cursor, v: u16) -> Stepped
-    ensures { λ r. ⌜ answered r ≡ fetchHigh port c v ⌝ }
+    ensures { λ r. ⌜ nextBy r ≡ fetchHigh port c v ⌝ }
 {
     if descriptor::port_owns(v) {
-        fetch_goes(port, Fetcher::Fetching(Stage::Low, c.with_high(v)))
+        port.goes(Ring::Command, Side::At(Stage::Low, c.with_high(v)))
     } else {
-        fetch_refused(port, Refusal::Empty)
+        port.refused(Ring::Command, Refusal::Empty)
     }
 }
 
 fn fetch_low(port: Port, end: usize, c: Cursor, v: u16) -> Stepped
-    ensures { λ r. ⌜ answered r ≡ fetchLow addressBits port end c v ⌝ }
+    ensures { λ r. ⌜ nextBy r ≡ fetchLow addressBits port end c v ⌝ }
 {
     let text = descriptor::address(v, c.high);
     if text < 4 {
@@ -111,14 +86,12 @@ fn fetch_low(port: Port, end: usize, c: Cursor, v: u16) -> Stepped
     if end < text as usize {
         return port.failed(Fatal::EnvelopeRead);
     }
-    fetch_goes(
-        port,
-        Fetcher::Fetching(Stage::Length, c.with_envelope(text - 4)),
-    )
+    let c = c.with_envelope(text - 4);
+    port.goes(Ring::Command, Side::At(Stage::Length, c))
 }
 
 fn fetch_header(port: Port, end: usize, c: Cursor, v: u16) -> Stepped
-    ensures { λ r. ⌜ answered r ≡ fetchHeader port end c v ⌝ }
+    ensures { λ r. ⌜ nextBy r ≡ fetchHeader port end c v ⌝ }
 {
     let fault = base_rules::fault_of(header::type_of(v), header::connection_of(v), c.size);
     match fault {
@@ -130,7 +103,7 @@ fn fetch_header(port: Port, end: usize, c: Cursor, v: u16) -> Stepped
             }
             let used = port.counts.owed as u16 + port.counts.unanswered as u16;
             if used < port.made.limit as u16 {
-                fetch_goes(port, fetch_on(c, 0))
+                port.goes(Ring::Command, Side::text_or_release(c, 0))
             } else {
                 port.failed(Fatal::CreditLimit)
             }
@@ -139,54 +112,55 @@ fn fetch_header(port: Port, end: usize, c: Cursor, v: u16) -> Stepped
 }
 
 fn fetch_text(mut port: Port, c: Cursor, v: u16) -> Stepped
-    ensures { λ r. ⌜ answered r ≡ fetchText port c v ⌝ }
+    ensures { λ r. ⌜ nextBy r ≡ fetchText port c v ⌝ }
 {
     base_texts::put_word(&mut port.incoming, c.size, c.at, v);
-    fetch_goes(port, fetch_on(c, c.at as usize + 1))
+    let side = Side::text_or_release(c, c.at as usize + 1);
+    port.goes(Ring::Command, side)
 }
 
 fn fetch_release(port: Port, area: Area, c: Cursor) -> Stepped
-    ensures { λ r. ⌜ answered r ≡ fetchRelease port area c ⌝ }
+    ensures { λ r. ⌜ nextBy r ≡ fetchRelease port area c ⌝ }
 {
     let port = port.fetched_one(area, c);
     if descriptor::has_flag(c.high) {
-        fetch_goes(
-            port,
-            Fetcher::FetchTail(tail::tail_start(area, Ring::Command), c),
-        )
+        let start = tail::tail_start(area, Ring::Command);
+        port.goes(Ring::Command, Side::Tail(start, c))
     } else {
         fetch_closed(port, c, false)
     }
 }
 
-// What a stage makes of the word that it touched.
-fn fetch_seen(port: Port, area: Area, end: usize, stage: Stage, c: Cursor, v: u16) -> Stepped
-    ensures { λ r. ⌜ answered r ≡ fetchSeen addressBits port area end stage c v ⌝ }
+// What follows from the word that a stage found.
+fn fetch_finds(port: Port, area: Area, end: usize, stage: Stage, c: Cursor, v: u16) -> Stepped
+    ensures { λ r. ⌜ nextBy r ≡ fetchFinds addressBits port area end stage c v ⌝ }
 {
     match stage {
         Stage::High => fetch_high(port, c, v),
         Stage::Low => fetch_low(port, end, c, v),
-        Stage::Length => fetch_goes(port, Fetcher::Fetching(Stage::Header, c.with_size(v))),
+        Stage::Length => port.goes(Ring::Command, Side::At(Stage::Header, c.with_size(v))),
         Stage::Header => fetch_header(port, end, c, v),
         Stage::Text => fetch_text(port, c, v),
         Stage::Release => fetch_release(port, area, c),
     }
 }
 
-fn fetch_after(port: Port, area: Area, end: usize, stage: Stage, c: Cursor, w: Word) -> Stepped
-    ensures { λ r. ⌜ answered r ≡ fetchAfter addressBits port area end stage c w ⌝ }
+// What follows from the word found, or from none.
+fn fetch_follows(port: Port, area: Area, end: usize, stage: Stage, c: Cursor, w: Word) -> Stepped
+    ensures { λ r. ⌜ nextBy r ≡ fetchFollows addressBits port area end stage c w ⌝ }
 {
     match w {
         Word::Outside => port.failed(fetch_outside(stage)),
-        Word::Value(v) => fetch_seen(port, area, end, stage, c, v),
+        Word::Value(v) => fetch_finds(port, area, end, stage, c, v),
     }
 }
 
+// What follows from a tail step.
 fn fetch_tailed(port: Port, c: Cursor, x: TailEnd) -> Stepped
-    ensures { λ r. ⌜ answered r ≡ fetchTailed port c x ⌝ }
+    ensures { λ r. ⌜ nextBy r ≡ fetchTailed port c x ⌝ }
 {
     match x {
-        TailEnd::Onward => fetch_goes(port, Fetcher::FetchTail(TailStage::Mark, c)),
+        TailEnd::Onward => port.goes(Ring::Command, Side::Tail(TailStage::Mark, c)),
         TailEnd::Closed(i) => fetch_closed(port, c, i),
         TailEnd::Broken(f) => port.failed(f),
     }
@@ -194,45 +168,42 @@ fn fetch_tailed(port: Port, c: Cursor, x: TailEnd) -> Stepped
 
 // Begins a fetch.
 pub fn begin_fetch(port: Port) -> Stepped
-    ensures { λ r. ⌜ answered r ≡ fetchBegun port ⌝ }
+    ensures { λ r. ⌜ nextBy r ≡ fetchBegun port ⌝ }
 {
     let phase = port.phase;
-    let site = state::site_of(phase);
-    let Site::On(_) = site else {
-        return port.said(Said::Refused(Refusal::NotRunning));
+    let serving = state::serving_of(phase);
+    let Serving::On(_) = serving else {
+        return port.replies(Said::Refused(Refusal::NotRunning));
     };
     let side = port.fetcher;
-    match side {
-        Fetcher::NoFetch => {
-            let c = Cursor::start(port.counts.fetch, 0, false);
-            let port = port.with_incoming(base_texts::blank());
-            fetch_goes(port, Fetcher::Fetching(Stage::High, c))
-        }
-        Fetcher::Fetching(_, _) => port.said(Said::Refused(Refusal::Busy)),
-        Fetcher::FetchTail(_, _) => port.said(Said::Refused(Refusal::Busy)),
+    if !side.is_idle() {
+        return port.replies(Said::Refused(Refusal::Busy));
     }
+    let c = Cursor::start(port.counts.fetch, 0, 0);
+    let port = port.with_incoming(base_texts::blank());
+    port.goes(Ring::Command, Side::At(Stage::High, c))
 }
 
 // One step of the fetch side: it touches one word at most.
 pub fn step_fetch(port: Port, mem: &mut [u8]) -> Stepped
-    ensures { λ r. ⌜ seen r (now (mem .exit)) ≡ fetchStep addressBits port (now (mem .entry)) ⌝ }
+    ensures { λ r. ⌜ with-memory (nextBy r) (now (mem .exit)) ≡ fetchStep addressBits port (now (mem .entry)) ⌝ }
 {
     let phase = port.phase;
-    let site = state::site_of(phase);
-    let Site::On(area) = site else {
-        return fetch_refused(port, Refusal::NotRunning);
+    let serving = state::serving_of(phase);
+    let Serving::On(area) = serving else {
+        return port.refused(Ring::Command, Refusal::NotRunning);
     };
     let side = port.fetcher;
     match side {
-        Fetcher::NoFetch => fetch_refused(port, Refusal::IdleSide),
-        Fetcher::Fetching(stage, c) => {
+        Side::Idle => port.refused(Ring::Command, Refusal::IdleSide),
+        Side::At(stage, c) => {
             let end = base_memory::usable_of(mem);
-            let w = base_memory::touched(mem, fetch_touch(area, stage, c));
-            fetch_after(port, area, end, stage, c, w)
+            let w = base_memory::touched(mem, fetch_asks(area, stage, c));
+            fetch_follows(port, area, end, stage, c, w)
         }
-        Fetcher::FetchTail(stage, c) => {
-            let w = base_memory::touched(mem, tail::tail_touch(area, Ring::Command, stage, c));
-            fetch_tailed(port, c, tail::tail_after(area, stage, w))
+        Side::Tail(stage, c) => {
+            let x = tail::tail_step(area, Ring::Command, stage, c, mem);
+            fetch_tailed(port, c, x)
         }
     }
 }

@@ -1,2 +1,1 @@
-pub mod PostLaws
 pub mod Determined

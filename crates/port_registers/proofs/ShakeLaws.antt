@@ -4,15 +4,14 @@ use mathlib.Core.Path.{_≡_, ap, _∙_}
 use mathlib.Core.Bool.{Bool, true, false, _&&_}
 use Rattle.base_memory.specs.Memory.{Memory}
 use Rattle.base_answers.specs.Told.{bareReply}
-use Rattle.base_answers.specs.declared.Said.the-variants.{Done, Failed as SaidFailed}
+use Rattle.base_answers.specs.declared.Said.the-variants.{Done, Failed}
 use Rattle.base_answers.specs.declared.Fatal.the-variants.{RingWrite}
 use Rattle.base_area.specs.Layout.{stepInterrupt, areaLies, areaCleared}
 use Rattle.base_area.specs.declared.Area.{Area}
-use Rattle.port_state.specs.State.{seen, withPhase, withFetcher, withPoster}
-use Rattle.port_state.specs.Shake.{readied}
-use Rattle.port_state.specs.declared.state.Phase.the-variants.{Step4, Failed}
-use Rattle.port_state.specs.declared.state.Fetcher.the-variants.{NoFetch}
-use Rattle.port_state.specs.declared.state.Poster.the-variants.{NoPost}
+use Rattle.base_side.specs.Step.{with-memory}
+use Rattle.port_state.specs.State.{nextBy, withPhase, ended}
+use Rattle.port_state.specs.Shake.{thirdHeard}
+use Rattle.port_state.specs.declared.state.Phase.the-variants.{Step4}
 use Rattle.port_state.specs.declared.state.Port.{Port}
 use Rattle.port_state.specs.declared.state.Stepped.{Stepped}
 use Rattle.port_state.proofs.StateLaws.{stepped}
@@ -31,10 +30,8 @@ module _ {a b : Bool} (d : Bool) (e : a ≡ b) where
 -- the area made zero, or fatal 7
 module _ (n : ℕ) (p : Port) (a : Area) (m : Memory) {l i : Bool} {m′ : Memory}
     (e : i ≡ stepInterrupt (a .first)) (h : (l ≡ areaLies n m a) × (m′ ≡ areaCleared n m a)) where
-  pub readied-yes : l ≡ true → (r : Stepped) → r ≡ stepped (bareReply Done i) (withPhase p (Step4 a)) → seen r m′ ≡ readied n p a m
-  readied-yes t r g = ap (λ (x : Stepped). seen x m′) g ∙ rw (← h .0, t, e, h .1)
+  pub third-yes : l ≡ true → (r : Stepped) → r ≡ stepped (bareReply Done i) (withPhase p (Step4 a)) → with-memory (nextBy r) m′ ≡ thirdHeard n p a m
+  third-yes t r g = ap (λ (x : Stepped). with-memory (nextBy x) m′) g ∙ rw (← h .0, t, e, h .1)
 
-  pub readied-no : l ≡ false
-      → (r : Stepped) → r ≡ stepped (bareReply (SaidFailed RingWrite) i) (withPoster (withFetcher (withPhase p (Failed RingWrite)) NoFetch) NoPost)
-      → seen r m′ ≡ readied n p a m
-  readied-no t r g = ap (λ (x : Stepped). seen x m′) g ∙ rw (← h .0, t, e, h .1)
+  pub third-no : l ≡ false → (r : Stepped) → r ≡ stepped (bareReply (Failed RingWrite) i) (ended p RingWrite) → with-memory (nextBy r) m′ ≡ thirdHeard n p a m
+  third-no t r g = ap (λ (x : Stepped). with-memory (nextBy x) m′) g ∙ rw (← h .0, t, e, h .1)

@@ -4,16 +4,15 @@ ghost use Rattle.base_words.specs.Words.{addressBits};
 ghost use mathlib.Core.Bool.{false};
 ghost use Rattle.base_answers.specs.Told.{bareReply};
 ghost use Rattle.base_answers.specs.declared.Said.the-variants.{Done};
-ghost use Rattle.port_state.specs.State.{answered, seen, fresh, withPhase};
-ghost use Rattle.port_state.specs.Shake.{saOf, firstHeard, readied, saWritten};
+ghost use Rattle.base_side.specs.Step.{with-memory};
+ghost use Rattle.port_state.specs.State.{nextBy, fresh, withPhase};
+ghost use Rattle.port_state.specs.Shake.{saOf, firstHeard, thirdHeard, saWritten};
 use base_answers::Fatal;
 use base_answers::Said;
 use base_area::Area;
 use base_words::hostword;
-use port_state::state::Fetcher;
 use port_state::state::Phase;
 use port_state::state::Port;
-use port_state::state::Poster;
 use port_state::state::Stepped;
 
 // A write to IP, of any word: Step 1, and all but what creation gave forgotten.
@@ -51,26 +50,24 @@ fn moves(port: Port, phase: Phase, interrupt: bool) -> Stepped
 }
 
 // The word that ends Step 3: the area is made zero, or fatal 7 follows.
-fn readies(port: Port, area: Area, mem: &mut [u8]) -> Stepped
-    ensures { λ r. ⌜ seen r (now (mem .exit)) ≡ readied addressBits port area (now (mem .entry)) ⌝ }
+fn hears_third(port: Port, area: Area, mem: &mut [u8]) -> Stepped
+    ensures { λ r. ⌜ with-memory (nextBy r) (now (mem .exit)) ≡ thirdHeard addressBits port area (now (mem .entry)) ⌝ }
 {
     let interrupt = base_area::interrupts_steps(area.first);
     if area.clear_area(mem) {
         return moves(port, Phase::Step4(area), interrupt);
     }
     let reply = base_answers::bare(Said::Failed(Fatal::RingWrite), interrupt);
-    let port = port.with_phase(Phase::Failed(Fatal::RingWrite))
-        .with_fetcher(Fetcher::NoFetch)
-        .with_poster(Poster::NoPost);
+    let port = port.ended(Fatal::RingWrite);
     Stepped { reply, port }
 }
 
 // The host's Step 1 word.
 fn hears_first(port: Port, w: u16) -> Stepped
-    ensures { λ r. ⌜ answered r ≡ firstHeard port w ⌝ }
+    ensures { λ r. ⌜ nextBy r ≡ firstHeard port w ⌝ }
 {
     if !hostword::is_first(w) {
-        return port.said(Said::Done);
+        return port.replies(Said::Done);
     }
     if hostword::wants_wrap(w) {
         if port.made.di {
@@ -82,7 +79,7 @@ fn hears_first(port: Port, w: u16) -> Stepped
 
 // A word that the host writes to SA, with host memory lent.
 pub fn write_sa(port: Port, w: u16, mem: &mut [u8]) -> Stepped
-    ensures { λ r. ⌜ seen r (now (mem .exit)) ≡ saWritten addressBits port w (now (mem .entry)) ⌝ }
+    ensures { λ r. ⌜ with-memory (nextBy r) (now (mem .exit)) ≡ saWritten addressBits port w (now (mem .entry)) ⌝ }
 {
     let phase = port.phase;
     match phase {
@@ -99,16 +96,16 @@ pub fn write_sa(port: Port, w: u16, mem: &mut [u8]) -> Stepped
                 second,
                 third: w,
             };
-            readies(port, area, mem)
+            hears_third(port, area, mem)
         }
         Phase::Step4(area) => {
             if hostword::says_go(w) {
                 moves(port, Phase::Running(area, w), false)
             } else {
-                port.said(Said::Done)
+                port.replies(Said::Done)
             }
         }
-        Phase::Running(_, _) => port.said(Said::Done),
-        Phase::Failed(_) => port.said(Said::Done),
+        Phase::Running(_, _) => port.replies(Said::Done),
+        Phase::Failed(_) => port.replies(Said::Done),
     }
 }

@@ -3,20 +3,22 @@
 use mathlib.Core.Path.{_≡_, sym, ap, _∙_}
 use Rattle.base_memory.specs.Memory.{Memory}
 use Rattle.base_answers.proofs.Laws.{reply-same}
-use Rattle.port_state.specs.State.{Next, Outcome, answered, seen}
+use Rattle.base_side.specs.Step.{Next, with-memory}
+use Rattle.base_side.proofs.StepLaws.{told-and-state}
+use Rattle.port_state.specs.State.{nextBy}
+use Rattle.port_state.specs.declared.state.Port.{Port}
 use Rattle.port_state.specs.declared.state.Stepped.{Stepped}
 use Rattle.port_state.proofs.state.Port.create.Reads as create
 
 -- The numbers of an answer give the answer back.
-pub stepped-same : (r r′ : Stepped) → answered r ≡ answered r′ → r ≡ r′
+pub stepped-same : (r r′ : Stepped) → nextBy r ≡ nextBy r′ → r ≡ r′
 stepped-same r r′ e =
-    let p = reply-same (r .reply) (r′ .reply) (ap (λ (x : Next). x .told) e) in
+    let p = reply-same (r .reply) (r′ .reply) (ap (λ (x : Next Port). x .told) e) in
     λ i. record { reply = p i; port = e i .state }
 
 -- The same with the memory that a call leaves.
-pub outcome-same : (r r′ : Stepped) (m m′ : Memory) → seen r m ≡ seen r′ m′ → (r ≡ r′) × (m ≡ m′)
-outcome-same r r′ m m′ e =
-    (stepped-same r r′ (ap (λ (o : Outcome). record { told = o .told; state = o .state }) e), ap (λ (o : Outcome). o .memory) e)
+pub outcome-same : (r r′ : Stepped) (m m′ : Memory) → with-memory (nextBy r) m ≡ with-memory (nextBy r′) m′ → (r ≡ r′) × (m ≡ m′)
+outcome-same r r′ m m′ e = let q = told-and-state e in (stepped-same r r′ (q .0), q .1)
 
 -- Creation.
 pub create-determined : (κs : _) (d : _) (r r′ : Stepped) (x x′ : _) → create.Post κs d r x → create.Post κs d r′ x′ → r ≡ r′

@@ -1,3 +1,4 @@
 pub mod StateLaws
+pub mod TailLaws
 pub mod SideLaws
 pub mod Determined

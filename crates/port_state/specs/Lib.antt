@@ -2,5 +2,6 @@
 pub mod State
 pub mod Shake
 pub mod Tail
+pub mod Side
 pub mod Fetch
 pub mod Post

@@ -10,7 +10,7 @@ use Rattle.base_answers.specs.declared.Fatal.the-variants.{RingRead, InterruptW
 use Rattle.base_area.specs.Layout.{slotAt, beforeOf, alone, indicator, hasVector}
 use Rattle.base_area.specs.declared.Area.{Area}
 use Rattle.base_area.specs.declared.Ring.{Ring}
-use Rattle.port_state.specs.declared.state.Cursor.{Cursor}
+use Rattle.base_side.specs.declared.Cursor.{Cursor}
 use Rattle.port_state.specs.declared.state.TailStage.{TailStage}
 use Rattle.port_state.specs.declared.state.TailStage.the-variants.{Test, Mark}
 use Rattle.port_state.specs.declared.state.TailEnd.{TailEnd}
@@ -20,14 +20,20 @@ use Rattle.port_state.specs.declared.state.TailEnd.the-variants.{Onward,
 unfoldable pub tailStart : Area → Ring → TailStage
 tailStart a r = cond (alone a r) Mark Test
 
--- The one word that a tail step touches.
-unfoldable pub tailTouch : ℕ → Area → Ring → TailStage → Cursor → Touch
-tailTouch n a r Test c = Read (slotAt n a r (beforeOf a r (c .slot)) + 2)
-tailTouch n a r Mark c = indicator n a r 1
+-- The word that a tail step asks for.
+unfoldable pub tailAsks : ℕ → Area → Ring → TailStage → Cursor → Touch
+tailAsks n a r Test c = Read (slotAt n a r (beforeOf a r (c .slot)) + 2)
+tailAsks n a r Mark c = indicator n a r 1
 
 -- What follows from it. An indicator outside is fatal 15, chapter 7's "Interrupt Write".
-unfoldable pub tailAfter : Area → TailStage → Word → TailEnd
-tailAfter a Test Outside = Broken RingRead
-tailAfter a Test (Value v) = cond (isSet owner v) Onward (Closed false)
-tailAfter a Mark Outside = Broken InterruptWrite
-tailAfter a Mark (Value v) = Closed (hasVector (a .first))
+unfoldable pub testFollows : Word → TailEnd
+testFollows Outside = Broken RingRead
+testFollows (Value v) = cond (isSet owner v) Onward (Closed false)
+
+unfoldable pub markFollows : Area → Word → TailEnd
+markFollows a Outside = Broken InterruptWrite
+markFollows a (Value v) = Closed (hasVector (a .first))
+
+abbrev pub tailFollows : Area → TailStage → Word → TailEnd
+tailFollows a Test w = testFollows w
+tailFollows a Mark w = markFollows a w

@@ -3,10 +3,10 @@ ghost use mathlib.Core.Path.{_≡_};
 ghost use Rattle.port_state.specs.Fetch.{fetched};
 ghost use Rattle.port_state.specs.Post.{posted};
 use crate::state::Counts;
-use crate::state::Cursor;
 use crate::state::Port;
 use base_area::Area;
 use base_area::Ring;
+use base_side::Cursor;
 
 impl Port {
     // The slot is given up: the next slot is the fetch side's, and one more command is open.
@@ -32,7 +32,7 @@ impl Port {
         let owed = self.counts.owed;
         let open = self.counts.unanswered;
         let fetch = self.counts.fetch;
-        if c.answers {
+        if self.asked.answers {
             let closed = if open > 0 { open - 1 } else { 0 };
             return self.with_counts(Counts {
                 fetch,

@@ -1,11 +1,16 @@
 ghost use mathlib.Core.Path.{_≡_};
 ghost use mathlib.Core.Bool.{false};
-ghost use Rattle.base_answers.specs.Told.{bareReply};
-ghost use Rattle.port_state.specs.State.{answered, siteOf, withPhase, withFetcher, withPoster, withIncoming, withOutgoing, withCounts, fresh, fail, startOf, withHigh, withEnvelope, withSize, withAt};
+ghost use Rattle.base_answers.specs.Told.{bareReply, refusalNumber};
+ghost use Rattle.base_side.specs.Step.{onward};
+ghost use Rattle.port_state.specs.Side.{isIdle, textOrRelease, refuse};
+ghost use Rattle.port_state.specs.State.{nextBy, servingOf, withPhase, withFetcher, withPoster, withSide, withIncoming, withOutgoing, withCounts, fresh, ended, fail};
 use base_answers::Fatal;
+use base_answers::Refusal;
 use base_answers::Reply;
 use base_answers::Said;
 use base_area::Area;
+use base_area::Ring;
+use base_side::Cursor;
 
 // What creation gave: kept through every write to IP.
 pub struct Made {
@@ -29,7 +34,7 @@ pub enum Phase {
 }
 
 // Whether the port runs, and the area that it then serves.
-pub enum Site {
+pub enum Serving {
     Off,
     On(Area),
 }
@@ -57,27 +62,16 @@ pub enum TailEnd {
     Broken(Fatal),
 }
 
-// Where an operation stands: its slot, that slot's high word as read, where the envelope starts, the text's length,
-// the next text word, and whether a post answers a command.
-pub struct Cursor {
-    pub envelope: u32,
-    pub high: u16,
-    pub size: u16,
-    pub at: u16,
-    pub slot: u8,
+// "A half has two sides, each with at most one operation": the fetch side and the post side.
+pub enum Side {
+    Idle,
+    At(Stage, Cursor),
+    Tail(TailStage, Cursor),
+}
+
+// What a post is asked beside its text: whether it answers a command.
+pub struct Asked {
     pub answers: bool,
-}
-
-pub enum Fetcher {
-    NoFetch,
-    Fetching(Stage, Cursor),
-    FetchTail(TailStage, Cursor),
-}
-
-pub enum Poster {
-    NoPost,
-    Posting(Stage, Cursor),
-    PostTail(TailStage, Cursor),
 }
 
 // The next slot of each side, the credits still to grant, and the commands fetched and not answered.
@@ -88,14 +82,15 @@ pub struct Counts {
     pub unanswered: u8,
 }
 
-// The port. The texts stand beside the sides: an enum holds no array.
+// The port. The texts stand beside the sides, since an enum holds no array, and with the text of a post what it was asked.
 pub struct Port {
     pub made: Made,
     pub phase: Phase,
-    pub fetcher: Fetcher,
-    pub poster: Poster,
+    pub fetcher: Side,
+    pub poster: Side,
     pub incoming: [u8; 60],
     pub outgoing: [u8; 60],
+    pub asked: Asked,
     pub counts: Counts,
 }
 
@@ -106,61 +101,41 @@ pub struct Stepped {
 }
 
 // Whether a port in some phase runs.
-pub fn site_of(phase: Phase) -> Site
-    ensures { λ r. ⌜ r ≡ siteOf phase ⌝ }
+pub fn serving_of(phase: Phase) -> Serving
+    ensures { λ r. ⌜ r ≡ servingOf phase ⌝ }
 {
     match phase {
-        Phase::Step1 => Site::Off,
-        Phase::Wrap(_) => Site::Off,
-        Phase::Step2(_) => Site::Off,
-        Phase::Step3(_, _) => Site::Off,
-        Phase::Step4(_) => Site::Off,
-        Phase::Running(a, _) => Site::On(a),
-        Phase::Failed(_) => Site::Off,
+        Phase::Step1 => Serving::Off,
+        Phase::Wrap(_) => Serving::Off,
+        Phase::Step2(_) => Serving::Off,
+        Phase::Step3(_, _) => Serving::Off,
+        Phase::Step4(_) => Serving::Off,
+        Phase::Running(a, _) => Serving::On(a),
+        Phase::Failed(_) => Serving::Off,
     }
 }
 
-impl Cursor {
-    // An operation at its beginning.
-    pub fn start(slot: u8, size: u16, answers: bool) -> Cursor
-        ensures { λ r. ⌜ r ≡ startOf slot size answers ⌝ }
+impl Side {
+    // Whether the side has no operation.
+    pub fn is_idle(self) -> bool
+        ensures { λ r. ⌜ r ≡ isIdle self ⌝ }
     {
-        Cursor {
-            slot,
-            high: 0,
-            envelope: 0,
-            size,
-            at: 0,
-            answers,
+        match self {
+            Side::Idle => true,
+            Side::At(_, _) => false,
+            Side::Tail(_, _) => false,
         }
     }
 
-    pub fn with_high(mut self, x: u16) -> Cursor
-        ensures { λ r. ⌜ r ≡ withHigh self x ⌝ }
+    // Text word k next, or the release where there is none.
+    pub fn text_or_release(c: Cursor, k: usize) -> Side
+        ensures { λ r. ⌜ r ≡ textOrRelease c k ⌝ }
     {
-        self.high = x;
-        self
-    }
-
-    pub fn with_envelope(mut self, x: u32) -> Cursor
-        ensures { λ r. ⌜ r ≡ withEnvelope self x ⌝ }
-    {
-        self.envelope = x;
-        self
-    }
-
-    pub fn with_size(mut self, x: u16) -> Cursor
-        ensures { λ r. ⌜ r ≡ withSize self x ⌝ }
-    {
-        self.size = x;
-        self
-    }
-
-    pub fn with_at(mut self, x: u16) -> Cursor
-        ensures { λ r. ⌜ r ≡ withAt self x ⌝ }
-    {
-        self.at = x;
-        self
+        if c.has_word(k) {
+            Side::At(Stage::Text, c.with_at(k as u16))
+        } else {
+            Side::At(Stage::Release, c)
+        }
     }
 }
 
@@ -175,10 +150,11 @@ impl Port {
         Port {
             made,
             phase: Phase::Step1,
-            fetcher: Fetcher::NoFetch,
-            poster: Poster::NoPost,
+            fetcher: Side::Idle,
+            poster: Side::Idle,
             incoming,
             outgoing,
+            asked: Asked { answers: false },
             counts: Counts {
                 fetch: 0,
                 post: 0,
@@ -196,6 +172,7 @@ impl Port {
         let poster = self.poster;
         let incoming = self.incoming;
         let outgoing = self.outgoing;
+        let asked = self.asked;
         let counts = self.counts;
         Port {
             made,
@@ -204,11 +181,12 @@ impl Port {
             poster,
             incoming,
             outgoing,
+            asked,
             counts,
         }
     }
 
-    pub fn with_fetcher(self, x: Fetcher) -> Port
+    pub fn with_fetcher(self, x: Side) -> Port
         ensures { λ r. ⌜ r ≡ withFetcher self x ⌝ }
     {
         let made = self.made;
@@ -216,6 +194,7 @@ impl Port {
         let poster = self.poster;
         let incoming = self.incoming;
         let outgoing = self.outgoing;
+        let asked = self.asked;
         let counts = self.counts;
         Port {
             made,
@@ -224,11 +203,12 @@ impl Port {
             poster,
             incoming,
             outgoing,
+            asked,
             counts,
         }
     }
 
-    pub fn with_poster(self, x: Poster) -> Port
+    pub fn with_poster(self, x: Side) -> Port
         ensures { λ r. ⌜ r ≡ withPoster self x ⌝ }
     {
         let made = self.made;
@@ -236,6 +216,7 @@ impl Port {
         let fetcher = self.fetcher;
         let incoming = self.incoming;
         let outgoing = self.outgoing;
+        let asked = self.asked;
         let counts = self.counts;
         Port {
             made,
@@ -244,7 +225,18 @@ impl Port {
             poster: x,
             incoming,
             outgoing,
+            asked,
             counts,
+        }
+    }
+
+    // A side by its ring: commands are fetched, responses posted.
+    pub fn with_side(self, ring: Ring, x: Side) -> Port
+        ensures { λ r. ⌜ r ≡ withSide self ring x ⌝ }
+    {
+        match ring {
+            Ring::Command => self.with_fetcher(x),
+            Ring::Response => self.with_poster(x),
         }
     }
 
@@ -255,11 +247,26 @@ impl Port {
         self
     }
 
-    pub fn with_outgoing(mut self, x: [u8; 60]) -> Port
-        ensures { λ r. ⌜ r ≡ withOutgoing self x ⌝ }
+    // A text to be posted, and what was asked of it.
+    pub fn with_outgoing(self, x: [u8; 60], asked: Asked) -> Port
+        ensures { λ r. ⌜ r ≡ withOutgoing self x asked ⌝ }
     {
-        self.outgoing = x;
-        self
+        let made = self.made;
+        let phase = self.phase;
+        let fetcher = self.fetcher;
+        let poster = self.poster;
+        let incoming = self.incoming;
+        let counts = self.counts;
+        Port {
+            made,
+            phase,
+            fetcher,
+            poster,
+            incoming,
+            outgoing: x,
+            asked,
+            counts,
+        }
     }
 
     pub fn with_counts(mut self, x: Counts) -> Port
@@ -270,20 +277,40 @@ impl Port {
     }
 
     // The port with an answer that carries no text.
-    pub fn said(self, said: Said) -> Stepped
+    pub fn replies(self, said: Said) -> Stepped
         ensures { λ r. ⌜ r ≡ record { reply = bareReply said false; port = self } ⌝ }
     {
         let reply = base_answers::bare(said, false);
         Stepped { reply, port: self }
     }
 
-    // A fatal error: both sides end, and SA shows the code from now on.
-    pub fn failed(self, x: Fatal) -> Stepped
-        ensures { λ r. ⌜ answered r ≡ fail self x ⌝ }
+    // A side's operation goes on.
+    pub fn goes(self, ring: Ring, x: Side) -> Stepped
+        ensures { λ r. ⌜ nextBy r ≡ onward (withSide self ring x) ⌝ }
     {
-        let port = self.with_phase(Phase::Failed(x))
-            .with_fetcher(Fetcher::NoFetch)
-            .with_poster(Poster::NoPost);
-        port.said(Said::Failed(x))
+        self.with_side(ring, x).replies(Said::Going)
+    }
+
+    // A side's operation is refused, and ends.
+    pub fn refused(self, ring: Ring, x: Refusal) -> Stepped
+        ensures { λ r. ⌜ nextBy r ≡ refuse self ring (refusalNumber x) ⌝ }
+    {
+        self.with_side(ring, Side::Idle).replies(Said::Refused(x))
+    }
+
+    // Both sides end, and SA shows the code from now on.
+    pub fn ended(self, x: Fatal) -> Port
+        ensures { λ r. ⌜ r ≡ ended self x ⌝ }
+    {
+        self.with_phase(Phase::Failed(x))
+            .with_fetcher(Side::Idle)
+            .with_poster(Side::Idle)
+    }
+
+    // A fatal error.
+    pub fn failed(self, x: Fatal) -> Stepped
+        ensures { λ r. ⌜ nextBy r ≡ fail self x ⌝ }
+    {
+        self.ended(x).replies(Said::Failed(x))
     }
 }

@@ -1,6 +1,5 @@
-use mathlib.Core.Path.{refl, sym, ap, _∙_}
+use mathlib.Core.Path.{refl, sym, _∙_}
 use mathlib.Core.Logic.{⊎-elim}
-use Rattle.host_state.specs.Shake.{turned}
 use Rattle.host_handshake.proofs.ShakeLaws.{asked-by, expects-error, expects-none, expects-old, expects-step, expects-wrong, expects-other}
 use borrow.Author.Needs.{needs}
 use Rattle.host_handshake.proofs.expects.Statement.{statement}
@@ -43,7 +42,7 @@ answers-requires : tie.Need-answers-requires
 answers-requires c κs = search needs
 
 returns-4 : tie.Need-returns-4
-returns-4 c = ap turned (c .answers .ensures) ∙ expects-step _ _ _ _ (sym (c .before .before .before .before .before .before .before .before .before .before .if1 .left) ∙ c .before .before .before .before .before .before .before .before .before .before .before .error .ensures) (c .before .before .before .before .before .before .before .before .before .steps .ensures) (c .before .before .before .before .before .before .before .before .if2 .left) (c .before .before .before .before .before .before .before .old-of .ensures) (c .before .before .before .before .before .before .if3 .left) (c .before .before .before .before .bit-of .ensures) (c .before .before .before .if4 .taken) (sym (c .before .if5 .taken) ∙ c .before .before .echo-is-right .ensures)
+returns-4 c = c .answers .ensures ∙ expects-step _ _ _ _ (sym (c .before .before .before .before .before .before .before .before .before .before .if1 .left) ∙ c .before .before .before .before .before .before .before .before .before .before .before .error .ensures) (c .before .before .before .before .before .before .before .before .before .steps .ensures) (c .before .before .before .before .before .before .before .before .if2 .left) (c .before .before .before .before .before .before .before .old-of .ensures) (c .before .before .before .before .before .before .if3 .left) (c .before .before .before .before .bit-of .ensures) (c .before .before .before .if4 .taken) (sym (c .before .if5 .taken) ∙ c .before .before .echo-is-right .ensures)
 
 stumbles-requires-2 : tie.Need-stumbles-requires-2
 stumbles-requires-2 c κs = search needs

@@ -1,7 +1,5 @@
-use mathlib.Core.Path.{_∙_}
-use Rattle.host_state.specs.Send.{sendAfter}
-use Rattle.host_state.proofs.StateLaws.{kept, touched-one, was-false, was-true}
-use Rattle.host_send.proofs.SendLaws.{step-early, step-idle, step-sending}
+use Rattle.host_state.proofs.SideLaws.{step-early, step-idle, step-on}
+use Rattle.host_state.specs.Send.{sendStep}
 use borrow.Author.Needs.{needs}
 use Rattle.host_send.proofs.step_send.Statement.{statement}
 use Rattle.host_send.proofs.step_send.Tie as tie
@@ -9,52 +7,52 @@ use Rattle.host_send.proofs.step_send.Tie as tie
 is-ready-requires : tie.Need-is-ready-requires
 is-ready-requires c κs = search needs
 
-send-refused-requires : tie.Need-send-refused-requires
-send-refused-requires c κs = search needs
+refused-requires : tie.Need-refused-requires
+refused-requires c κs = search needs
 
 returns : tie.Need-returns
-returns c = kept _ (c .send-refused .ensures) ∙ step-early _ _ _ (was-false (c .before .if1 .taken) (c .before .before .is-ready .ensures))
+returns c = unfold sendStep in step-early _ _ _ _ _ _ _ (c .before .before .is-ready .ensures) (c .before .if1 .taken) (c .refused .ensures)
 
 enum-told : tie.Need-enum-told
 enum-told c = search needs
 
-send-refused-requires-2 : tie.Need-send-refused-requires-2
-send-refused-requires-2 c κs = search needs
+refused-requires-2 : tie.Need-refused-requires-2
+refused-requires-2 c κs = search needs
 
 enum-known-side : tie.Need-enum-known-side
 enum-known-side c = search needs
 
-send-touch-requires : tie.Need-send-touch-requires
-send-touch-requires c κs = search needs
+send-asks-requires : tie.Need-send-asks-requires
+send-asks-requires c κs = search needs
 
 touched-requires : tie.Need-touched-requires
 touched-requires c κs = search needs
 
-send-after-requires : tie.Need-send-after-requires
-send-after-requires c κs = search needs
+send-follows-requires : tie.Need-send-follows-requires
+send-follows-requires c κs = search needs
 
 returns-2 : tie.Need-returns-2
-returns-2 c = kept _ (c .send-refused2 .ensures) ∙ step-idle _ _ _ (was-true (c .before .before .before .if1 .left) (c .before .before .before .before .is-ready .ensures)) (c .before .enum-told .given .1)
+returns-2 c = unfold sendStep in step-idle _ _ _ _ _ _ _ (c .before .before .before .before .is-ready .ensures) (c .before .before .before .if1 .left) (c .before .enum-told .given .1) (c .refused2 .ensures)
 
 same-length : tie.Need-same-length
 same-length c = search needs
 
 returns-3 : tie.Need-returns-3
-returns-3 c = touched-one _ _ (sendAfter _ _ _) (c .before .before .before .before .send-touch .ensures) (c .before .before .before .touched .ensures) (c .send-after .ensures) ∙ step-sending _ _ _ (was-true (c .before .before .before .before .before .before .before .before .before .if1 .left) (c .before .before .before .before .before .before .before .before .before .before .is-ready .ensures)) (c .before .before .before .before .before .before .before .side .given .1)
+returns-3 c = unfold sendStep in step-on _ _ _ _ _ _ _ (c .before .before .before .before .before .before .before .before .before .before .is-ready .ensures) (c .before .before .before .before .before .before .before .before .before .if1 .left) (c .before .before .before .before .before .before .before .side .given .1) (c .before .before .before .before .send-asks .ensures) (c .before .before .before .touched .ensures) (c .send-follows .ensures)
 
 pub step-send-spec : {M : Type 1} → statement M
 step-send-spec =
     tie.close
     (tie.spec
     is-ready-requires
-    send-refused-requires
+    refused-requires
     returns
     enum-told
-    send-refused-requires-2
+    refused-requires-2
     enum-known-side
-    send-touch-requires
+    send-asks-requires
     touched-requires
-    send-after-requires
+    send-follows-requires
     returns-2
     same-length
     returns-3)

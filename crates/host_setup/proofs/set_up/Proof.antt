@@ -1,6 +1,8 @@
-use mathlib.Core.Path.{refl, _∙_}
-use Rattle.host_state.proofs.StateLaws.{said-by, kept, was-false, was-true}
 use Rattle.host_setup.proofs.SetupLaws.{set-up-early, set-up-sending, set-up-taking, set-up-no, set-up-yes}
+use Rattle.host_state.proofs.StateLaws.{replies-is}
+use Rattle.base_answers.specs.declared.Refusal.the-variants.{NotRunning, Busy, DoesNotFit}
+use Rattle.base_answers.specs.declared.Said.the-variants.{Done, Refused}
+use mathlib.Core.Path.{refl}
 use borrow.Author.Needs.{needs}
 use Rattle.host_setup.proofs.set_up.Statement.{statement}
 use Rattle.host_setup.proofs.set_up.Tie as tie
@@ -8,29 +10,29 @@ use Rattle.host_setup.proofs.set_up.Tie as tie
 finished-requires : tie.Need-finished-requires
 finished-requires c κs = search needs
 
-said-requires : tie.Need-said-requires
-said-requires c κs = search needs
+replies-requires : tie.Need-replies-requires
+replies-requires c κs = search needs
 
 returns : tie.Need-returns
-returns c = kept _ (said-by refl (c .said .ensures)) ∙ set-up-early _ _ _ _ (was-false (c .before .if1 .taken) (c .before .before .finished .ensures))
+returns c = set-up-early _ _ _ _ (c .before .before .finished .ensures) (c .before .if1 .taken) (replies-is (Refused NotRunning) refl (c .replies .ensures))
 
-sender-idle-requires : tie.Need-sender-idle-requires
-sender-idle-requires c κs = search needs
+is-idle-requires : tie.Need-is-idle-requires
+is-idle-requires c κs = search needs
 
-said-requires-2 : tie.Need-said-requires-2
-said-requires-2 c κs = search needs
+replies-requires-2 : tie.Need-replies-requires-2
+replies-requires-2 c κs = search needs
 
 returns-2 : tie.Need-returns-2
-returns-2 c = kept _ (said-by refl (c .said2 .ensures)) ∙ set-up-sending _ _ _ _ (was-true (c .before .before .before .if1 .left) (c .before .before .before .before .finished .ensures)) (was-false (c .before .if2 .taken) (c .before .before .sender-idle .ensures))
+returns-2 c = set-up-sending _ _ _ _ (c .before .before .before .before .finished .ensures) (c .before .before .before .if1 .left) (c .before .before .is-idle .ensures) (c .before .if2 .taken) (replies-is (Refused Busy) refl (c .replies2 .ensures))
 
-taker-idle-requires : tie.Need-taker-idle-requires
-taker-idle-requires c κs = search needs
+is-idle-requires-2 : tie.Need-is-idle-requires-2
+is-idle-requires-2 c κs = search needs
 
-said-requires-3 : tie.Need-said-requires-3
-said-requires-3 c κs = search needs
+replies-requires-3 : tie.Need-replies-requires-3
+replies-requires-3 c κs = search needs
 
 returns-3 : tie.Need-returns-3
-returns-3 c = kept _ (said-by refl (c .said3 .ensures)) ∙ set-up-taking _ _ _ _ (was-true (c .before .before .before .before .before .if1 .left) (c .before .before .before .before .before .before .finished .ensures)) (was-true (c .before .before .before .if2 .left) (c .before .before .before .before .sender-idle .ensures)) (was-false (c .before .if3 .taken) (c .before .before .taker-idle .ensures))
+returns-3 c = set-up-taking _ _ _ _ (c .before .before .before .before .before .before .finished .ensures) (c .before .before .before .before .before .if1 .left) (c .before .before .before .before .is-idle .ensures) (c .before .before .before .if2 .left) (c .before .before .is-idle2 .ensures) (c .before .if3 .taken) (replies-is (Refused Busy) refl (c .replies3 .ensures))
 
 usable-of-requires : tie.Need-usable-of-requires
 usable-of-requires c κs = search needs
@@ -38,14 +40,14 @@ usable-of-requires c κs = search needs
 fits-in-requires : tie.Need-fits-in-requires
 fits-in-requires c κs = search needs
 
-said-requires-4 : tie.Need-said-requires-4
-said-requires-4 c κs = search needs
+replies-requires-4 : tie.Need-replies-requires-4
+replies-requires-4 c κs = search needs
 
 same-length : tie.Need-same-length
 same-length c = search needs
 
 returns-4 : tie.Need-returns-4
-returns-4 c = kept _ (said-by refl (c .said4 .ensures)) ∙ set-up-no _ _ _ _ (was-true (c .before .before .before .before .before .before .before .before .before .if1 .left) (c .before .before .before .before .before .before .before .before .before .before .finished .ensures)) (was-true (c .before .before .before .before .before .before .before .if2 .left) (c .before .before .before .before .before .before .before .before .sender-idle .ensures)) (was-true (c .before .before .before .before .before .if3 .left) (c .before .before .before .before .before .before .taker-idle .ensures)) (c .before .before .before .usable-of .ensures) (was-false (c .before .if4 .taken) (c .before .before .fits-in .ensures))
+returns-4 c = set-up-no _ _ _ _ (c .before .before .before .before .before .before .before .before .before .before .finished .ensures) (c .before .before .before .before .before .before .before .before .before .if1 .left) (c .before .before .before .before .before .before .before .before .is-idle .ensures) (c .before .before .before .before .before .before .before .if2 .left) (c .before .before .before .before .before .before .is-idle2 .ensures) (c .before .before .before .before .before .if3 .left) (c .before .before .before .usable-of .ensures) (c .before .before .fits-in .ensures) (c .before .if4 .taken) (replies-is (Refused DoesNotFit) refl (c .replies4 .ensures))
 
 set-up-requires : tie.Need-set-up-requires
 set-up-requires c κs = search needs
@@ -53,35 +55,35 @@ set-up-requires c κs = search needs
 made-ready-requires : tie.Need-made-ready-requires
 made-ready-requires c κs = search needs
 
-said-requires-5 : tie.Need-said-requires-5
-said-requires-5 c κs = search needs
+replies-requires-5 : tie.Need-replies-requires-5
+replies-requires-5 c κs = search needs
 
 same-length-2 : tie.Need-same-length-2
 same-length-2 c = search needs
 
 returns-5 : tie.Need-returns-5
-returns-5 c = kept _ (said-by (c .before .made-ready .ensures) (c .said5 .ensures)) ∙ set-up-yes _ _ _ _ (was-true (c .before .before .before .before .before .before .before .before .before .before .before .before .before .before .if1 .left) (c .before .before .before .before .before .before .before .before .before .before .before .before .before .before .before .finished .ensures)) (was-true (c .before .before .before .before .before .before .before .before .before .before .before .before .if2 .left) (c .before .before .before .before .before .before .before .before .before .before .before .before .before .sender-idle .ensures)) (was-true (c .before .before .before .before .before .before .before .before .before .before .if3 .left) (c .before .before .before .before .before .before .before .before .before .before .before .taker-idle .ensures)) (c .before .before .before .before .before .before .before .before .usable-of .ensures) (was-true (c .before .before .before .before .before .before .if4 .left) (c .before .before .before .before .before .before .before .fits-in .ensures)) (c .before .before .before .before .set-up .ensures)
+returns-5 c = set-up-yes _ _ _ _ (c .before .before .before .before .before .before .before .before .before .before .before .before .before .before .before .finished .ensures) (c .before .before .before .before .before .before .before .before .before .before .before .before .before .before .if1 .left) (c .before .before .before .before .before .before .before .before .before .before .before .before .before .is-idle .ensures) (c .before .before .before .before .before .before .before .before .before .before .before .before .if2 .left) (c .before .before .before .before .before .before .before .before .before .before .before .is-idle2 .ensures) (c .before .before .before .before .before .before .before .before .before .before .if3 .left) (c .before .before .before .before .before .before .before .before .usable-of .ensures) (c .before .before .before .before .before .before .before .fits-in .ensures) (c .before .before .before .before .before .before .if4 .left) (c .before .before .before .before .set-up .ensures) (replies-is Done (c .before .made-ready .ensures) (c .replies5 .ensures))
 
 pub set-up-spec : {M : Type 1} → statement M
 set-up-spec =
     tie.close
     (tie.spec
     finished-requires
-    said-requires
+    replies-requires
     returns
-    sender-idle-requires
-    said-requires-2
+    is-idle-requires
+    replies-requires-2
     returns-2
-    taker-idle-requires
-    said-requires-3
+    is-idle-requires-2
+    replies-requires-3
     returns-3
     usable-of-requires
     fits-in-requires
-    said-requires-4
+    replies-requires-4
     same-length
     returns-4
     set-up-requires
     made-ready-requires
-    said-requires-5
+    replies-requires-5
     same-length-2
     returns-5)

@@ -1,4 +1,9 @@
-use Rattle.host_take.proofs.TakeLaws.{closed-is}
+use Rattle.host_state.specs.declared.state.Host.{Host}
+use Rattle.host_state.specs.declared.state.Side.the-variants.{Idle}
+use Rattle.host_state.specs.Take.{takeClosed}
+use Rattle.host_state.proofs.StateLaws.{closed-is}
+use Rattle.host_state.specs.State.{withTaker}
+use mathlib.Core.Path.{ap, _∙_}
 use borrow.Author.Needs.{needs}
 use Rattle.host_take.proofs.take_closed.Statement.{statement}
 use Rattle.host_take.proofs.take_closed.Tie as tie
@@ -13,7 +18,7 @@ with-taker-requires : tie.Need-with-taker-requires
 with-taker-requires c κs = search needs
 
 returns : tie.Need-returns
-returns c = closed-is _ _ (c .before .before .full .ensures) (c .before .taken-one .ensures) (c .with-taker .ensures)
+returns c = unfold takeClosed in closed-is (c .before .before .full .ensures) ((c .with-taker .ensures) ∙ ap (λ (h : Host). withTaker h Idle) (c .before .taken-one .ensures))
 
 pub take-closed-spec : {M : Type 1} → statement M
 take-closed-spec =

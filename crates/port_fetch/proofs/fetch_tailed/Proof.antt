@@ -1,5 +1,5 @@
 use Rattle.port_state.specs.Fetch.{fetchTailed}
-use Rattle.port_state.proofs.StateLaws.{by}
+use Rattle.base_side.proofs.StepLaws.{by}
 use borrow.Author.Needs.{needs}
 use Rattle.port_fetch.proofs.fetch_tailed.Statement.{statement}
 use Rattle.port_fetch.proofs.fetch_tailed.Tie as tie
@@ -7,8 +7,8 @@ use Rattle.port_fetch.proofs.fetch_tailed.Tie as tie
 enum-told : tie.Need-enum-told
 enum-told c = search needs
 
-fetch-goes-requires : tie.Need-fetch-goes-requires
-fetch-goes-requires c κs = search needs
+goes-requires : tie.Need-goes-requires
+goes-requires c κs = search needs
 
 enum-known-x : tie.Need-enum-known-x
 enum-known-x c = search needs
@@ -23,20 +23,20 @@ failed-requires : tie.Need-failed-requires
 failed-requires c κs = search needs
 
 returns : tie.Need-returns
-returns c = by (fetchTailed _ _) (c .before .enum-told .given .1) (unfold fetchTailed in c .fetch-goes .ensures)
+returns c = by (fetchTailed _ _) (c .before .enum-told .given .1) (unfold fetchTailed in (c .goes .ensures))
 
 returns-2 : tie.Need-returns-2
-returns-2 c = by (fetchTailed _ _) (c .before .before .x .given .1) (unfold fetchTailed in c .fetch-closed .ensures)
+returns-2 c = by (fetchTailed _ _) (c .before .before .x .given .1) (unfold fetchTailed in (c .fetch-closed .ensures))
 
 returns-3 : tie.Need-returns-3
-returns-3 c = by (fetchTailed _ _) (c .before .before .x2 .given .1) (unfold fetchTailed in c .failed .ensures)
+returns-3 c = by (fetchTailed _ _) (c .before .before .x2 .given .1) (unfold fetchTailed in (c .failed .ensures))
 
 pub fetch-tailed-spec : {M : Type 1} → statement M
 fetch-tailed-spec =
     tie.close
     (tie.spec
     enum-told
-    fetch-goes-requires
+    goes-requires
     enum-known-x
     fetch-closed-requires
     enum-known-x-2

@@ -1,6 +1,6 @@
-use mathlib.Core.Path.{refl}
 use Rattle.port_state.specs.Post.{creditsOf}
-use Rattle.port_state.proofs.StateLaws.{yes, no}
+use Rattle.base_side.proofs.StepLaws.{yes, no}
+use mathlib.Core.Path.{refl}
 use borrow.Author.Needs.{needs}
 use Rattle.port_post.proofs.credits_of.Statement.{statement}
 use Rattle.port_post.proofs.credits_of.Tie as tie

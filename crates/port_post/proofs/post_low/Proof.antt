@@ -1,12 +1,14 @@
-use Prim.Native.Nat.{ℕ, _+_, _*_, _-_}
-use mathlib.Core.Path.{ap, ap₂, _∙_}
-use Rattle.port_state.specs.State.{withEnvelope}
-use Rattle.port_state.specs.Post.{postLow}
-use Rattle.port_state.specs.declared.state.Cursor.{Cursor}
+use Rattle.port_state.specs.declared.state.Side.the-variants.{At}
 use Rattle.port_state.specs.declared.state.Stage.the-variants.{Length}
-use Rattle.port_state.specs.declared.state.Poster.the-variants.{Posting}
-use Rattle.port_state.proofs.StateLaws.{yes, no}
-use Rattle.port_state.proofs.SideLaws.{posting, envelope-low, envelope-past, envelope-in}
+use Rattle.port_state.specs.Post.{postLow}
+use Rattle.port_state.proofs.SideLaws.{envelope-low, envelope-past, envelope-in}
+use Rattle.base_side.proofs.StepLaws.{yes, no}
+use Rattle.port_state.specs.State.{withPoster}
+use Rattle.base_side.specs.Step.{onward}
+use Rattle.base_side.specs.declared.Cursor.{Cursor}
+use Rattle.base_side.specs.Place.{withEnvelope}
+use mathlib.Core.Path.{ap, ap₂, _∙_}
+use Prim.Native.Nat.{ℕ, _+_, _*_, _-_}
 use borrow.Author.Needs.{needs}
 use Rattle.port_post.proofs.post_low.Statement.{statement}
 use Rattle.port_post.proofs.post_low.Tie as tie
@@ -41,11 +43,11 @@ returns-2 c = unfold postLow in no _ _ (envelope-past _ (c .before .before .befo
 with-envelope-requires : tie.Need-with-envelope-requires
 with-envelope-requires c κs = search needs
 
-post-goes-requires : tie.Need-post-goes-requires
-post-goes-requires c κs = search needs
+goes-requires : tie.Need-goes-requires
+goes-requires c κs = search needs
 
 returns-3 : tie.Need-returns-3
-returns-3 c = unfold postLow in yes _ _ (envelope-in _ (c .before .before .before .before .before .address .ensures) (c .before .before .before .before .if1 .left) _ _ (ap₂ (λ (t w : ℕ). t + 2 * w) (c .before .before .before .before .before .address .ensures) (c .before .before .before .words-of .ensures)) (c .before .before .if2 .left)) (c .post-goes .ensures ∙ ap (λ (d : Cursor). posting (c .before .before .before .before .before .before .args .port) (Posting Length d)) (c .before .with-envelope .ensures ∙ ap (λ (t : ℕ). withEnvelope (c .before .before .before .before .before .before .args .c) (t - 4)) (c .before .before .before .before .before .address .ensures)))
+returns-3 c = unfold postLow in yes _ _ (envelope-in _ (c .before .before .before .before .before .address .ensures) (c .before .before .before .before .if1 .left) _ _ (ap₂ (λ (t w : ℕ). t + 2 * w) (c .before .before .before .before .before .address .ensures) (c .before .before .before .words-of .ensures)) (c .before .before .if2 .left)) ((c .goes .ensures) ∙ ap (λ (d : Cursor). onward (withPoster (c .before .before .before .before .before .before .args .port) (At Length d))) ((c .before .with-envelope .ensures) ∙ ap (λ (t : ℕ). withEnvelope (c .before .before .before .before .before .before .args .c) (t - 4)) (c .before .before .before .before .before .address .ensures)))
 
 pub post-low-spec : {M : Type 1} → statement M
 post-low-spec =
@@ -61,5 +63,5 @@ post-low-spec =
     failed-requires-2
     returns-2
     with-envelope-requires
-    post-goes-requires
+    goes-requires
     returns-3)

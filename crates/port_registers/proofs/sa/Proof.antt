@@ -1,7 +1,7 @@
 use Rattle.base_words.specs.Words.{fatalWord}
 use mathlib.Core.Path.{refl, ap, _∙_}
 use Rattle.port_state.specs.Shake.{shown, saOf}
-use Rattle.port_state.proofs.StateLaws.{by}
+use Rattle.base_side.proofs.StepLaws.{by}
 use borrow.Author.Needs.{needs}
 use Rattle.port_registers.proofs.sa.Statement.{statement}
 use Rattle.port_registers.proofs.sa.Tie as tie

@@ -1,6 +1,6 @@
 use mathlib.Core.Path.{refl, sym, _∙_}
 use Rattle.port_state.specs.Tail.{tailStart}
-use Rattle.port_state.proofs.StateLaws.{yes, no}
+use Rattle.base_side.proofs.StepLaws.{yes, no}
 use borrow.Author.Needs.{needs}
 use Rattle.port_state.proofs.tail.tail_start.Statement.{statement}
 use Rattle.port_state.proofs.tail.tail_start.Tie as tie

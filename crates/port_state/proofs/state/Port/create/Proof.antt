@@ -1,6 +1,7 @@
 use Rattle.base_answers.specs.declared.Said.the-variants.{Done}
 use Rattle.port_state.specs.Shake.{created}
-use Rattle.port_state.proofs.StateLaws.{yes, no, said-is, limit-low, limit-high, limit-yes}
+use Rattle.base_side.proofs.StepLaws.{yes, no}
+use Rattle.port_state.proofs.StateLaws.{replies-is, limit-low, limit-high, limit-yes}
 use borrow.Author.Needs.{needs}
 use Rattle.port_state.proofs.state.Port.create.Statement.{statement}
 use Rattle.port_state.proofs.state.Port.create.Tie as tie
@@ -20,11 +21,11 @@ returns-2 c = unfold created in no _ _ (limit-high _ (c .before .before .if1 .le
 new-requires : tie.Need-new-requires
 new-requires c κs = search needs
 
-said-requires : tie.Need-said-requires
-said-requires c κs = search needs
+replies-requires : tie.Need-replies-requires
+replies-requires c κs = search needs
 
 returns-3 : tie.Need-returns-3
-returns-3 c = unfold created in yes _ _ (limit-yes _ (c .before .before .before .if1 .left) (c .before .before .if2 .left)) (said-is Done (c .before .new .ensures) (c .said .ensures))
+returns-3 c = unfold created in yes _ _ (limit-yes _ (c .before .before .before .if1 .left) (c .before .before .if2 .left)) (replies-is Done (c .before .new .ensures) (c .replies .ensures))
 
 pub create-spec : {M : Type 1} → statement M
 create-spec =
@@ -35,5 +36,5 @@ create-spec =
     limited-requires-2
     returns-2
     new-requires
-    said-requires
+    replies-requires
     returns-3)

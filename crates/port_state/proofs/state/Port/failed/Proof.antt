@@ -1,24 +1,17 @@
-use Rattle.port_state.proofs.StateLaws.{failed-is}
+use Rattle.port_state.proofs.StateLaws.{replies-is}
+use Rattle.base_answers.specs.declared.Said.the-variants.{Failed}
 use borrow.Author.Needs.{needs}
 use Rattle.port_state.proofs.state.Port.failed.Statement.{statement}
 use Rattle.port_state.proofs.state.Port.failed.Tie as tie
 
-with-phase-requires : tie.Need-with-phase-requires
-with-phase-requires c κs = search needs
+ended-requires : tie.Need-ended-requires
+ended-requires c κs = search needs
 
-with-fetcher-requires : tie.Need-with-fetcher-requires
-with-fetcher-requires c κs = search needs
-
-with-poster-requires : tie.Need-with-poster-requires
-with-poster-requires c κs = search needs
-
-said-requires : tie.Need-said-requires
-said-requires c κs = search needs
+replies-requires : tie.Need-replies-requires
+replies-requires c κs = search needs
 
 returns : tie.Need-returns
-returns c = failed-is (c .before .before .before .before .args .self) _ (c .before .before .before .with-phase .ensures) (c .before .before .with-fetcher .ensures) (c .before .with-poster .ensures) (c .said .ensures)
+returns c = replies-is (Failed _) (c .before .ended .ensures) (c .replies .ensures)
 
 pub failed-spec : {M : Type 1} → statement M
-failed-spec =
-    tie.close
-    (tie.spec with-phase-requires with-fetcher-requires with-poster-requires said-requires returns)
+failed-spec = tie.close (tie.spec ended-requires replies-requires returns)

@@ -2,7 +2,7 @@ use native.Mathlib.Omega.{arith}
 use mathlib.Core.Logic.{⊎-elim}
 use mathlib.Core.Path.{refl, _∙_}
 use Rattle.port_state.specs.Post.{posted}
-use Rattle.port_state.proofs.StateLaws.{yes, no}
+use Rattle.base_side.proofs.StepLaws.{yes, no}
 use Rattle.port_state.proofs.SideLaws.{counts-is}
 use borrow.Author.Needs.{needs}
 use Rattle.port_state.proofs.state.Port.posted_one.Statement.{statement}
