@@ -11,12 +11,13 @@ use Rattle.base_answers.specs.declared.Fatal.the-variants.{InvalidConnection}
 use Rattle.base_area.specs.Layout.{base, slotAt}
 use Rattle.base_area.specs.declared.Area.{Area}
 use Rattle.base_area.specs.declared.Ring.the-variants.{Command}
-use Rattle.port_state.specs.State.{fail, startOf}
+use Rattle.base_side.specs.Place.{startOf}
+use Rattle.port_state.specs.State.{withOutgoing, fail}
 use Rattle.port_state.specs.Shake.{created, saOf, saWritten}
 use Rattle.port_state.specs.Post.{creditsOf, posted}
 use Rattle.port_state.specs.declared.state.Made.{Made}
 use Rattle.port_state.specs.declared.state.Port.{Port}
-use Rattle.host_state.specs.Shake.{Asks, writesIp, writesSa, waiting, dead, none, portFatal, refused, newHost, begun, saSeen}
+use Rattle.host_state.specs.Shake.{Asks, writesIp, writesSa, waiting, dead, none, portFatal, refuses, newHost, begun, saSeen}
 use Rattle.host_state.specs.declared.state.Beginning.{Beginning}
 use Rattle.host_state.specs.declared.state.Host.{Host}
 
@@ -46,7 +47,7 @@ wordOf waiting = 0
 wordOf dead = 0
 wordOf none = 0
 wordOf (portFatal x) = 0
-wordOf (refused k) = 0
+wordOf (refuses k) = 0
 
 -- The handshake between them, step by step: what SA shows, what the host writes.
 abbrev pub port1 : Port
@@ -80,10 +81,10 @@ area = host1 .area
 -- The credits that the next k answers carry.
 abbrev pub answersOf : ℕ → Port → List ℕ
 answersOf zero p = []
-answersOf (suc k) p = creditsOf p (startOf 0 0 true) ∷ answersOf k (posted p area (startOf 0 0 true))
+answersOf (suc k) p = creditsOf p ∷ answersOf k (posted p area (startOf 0 0 0))
 
-abbrev pub answered : ℕ → ℕ → List ℕ
-answered limit k = answersOf k (created (board limit) .state)
+abbrev pub grants : ℕ → ℕ → List ℕ
+grants limit k = answersOf k (withOutgoing (created (board limit) .state) [] (record { answers = true }))
 
 -- The table.
 unfoldable pub table : List Row
@@ -101,10 +102,10 @@ table =
     ∷ [])
     ∷ row 8 (16 ∷ 44 ∷ [])
     ((slotAt addressBits area Command 0 - base addressBits area) ∷ (slotAt addressBits area Command 7 - base addressBits area) ∷ [])
-    ∷ row 9 (15 ∷ 14 ∷ 1 ∷ []) (answered 28 3)
-    ∷ row 10 (15 ∷ 2 ∷ 1 ∷ []) (answered 16 3)
-    ∷ row 11 (1 ∷ 1 ∷ []) (answered 1 2)
-    ∷ row 12 (15 ∷ 15 ∷ 15 ∷ 15 ∷ 8 ∷ 1 ∷ []) (answered 64 6)
+    ∷ row 9 (15 ∷ 14 ∷ 1 ∷ []) (grants 28 3)
+    ∷ row 10 (15 ∷ 2 ∷ 1 ∷ []) (grants 16 3)
+    ∷ row 11 (1 ∷ 1 ∷ []) (grants 1 2)
+    ∷ row 12 (15 ∷ 15 ∷ 15 ∷ 15 ∷ 8 ∷ 1 ∷ []) (grants 64 6)
     ∷ []
 
 -- The claim: what the definitions give is what document 01 says, in every row.

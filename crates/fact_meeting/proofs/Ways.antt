@@ -15,6 +15,7 @@ use Rattle.base_memory.specs.Memory.{Memory, usable, lies}
 use Rattle.base_memory.proofs.Laws.{usable-le, cleared-length}
 use Rattle.base_area.specs.Layout.{base, lead, ringsEnd, areaLies, areaCleared}
 use Rattle.base_area.specs.declared.Area.{Area}
+use Rattle.base_side.specs.Step.{Outcome}
 use Rattle.port_state.specs.State as PortState
 use Rattle.port_state.specs.Shake.{firstHeard, saWritten}
 use Rattle.port_state.specs.declared.state.Made.{Made}
@@ -22,7 +23,7 @@ use Rattle.port_state.specs.declared.state.Phase.{Phase}
 use Rattle.port_state.specs.declared.state.Phase.the-variants.{Step1, Step2, Step3, Step4, Running}
 use Rattle.port_state.specs.declared.state.Port.{Port}
 use Rattle.host_state.specs.State as HostState
-use Rattle.host_state.specs.Shake.{Turn, writesSa, waiting, dead, none, portFatal, accepts, areaOf, begun, bitOf, oldOf, echoes, reply, onwardFrom, mishap, expecting, saSeen, timeUp}
+use Rattle.host_state.specs.Shake.{Turn, turn, writesSa, waiting, dead, none, portFatal, accepts, areaOf, begun, bitOf, oldOf, echoes, reply, onwardFrom, mishap, expecting, saSeen, timeUp}
 use Rattle.host_state.specs.declared.state.Shake.{Shake}
 use Rattle.host_state.specs.declared.state.Shake.the-variants.{Dead, Expect, Finished}
 use Rattle.host_state.specs.declared.state.Step.{Step}
@@ -51,13 +52,13 @@ area-length m a e =
     (omega (arith, leb-true (ringsEnd addressBits a) (usable addressBits (length m)) (t .1), usable-le addressBits (length m))))
 
 -- a word while a step is expected: a mishap, a wait, or the answer
-expecting-is : (h : Host) (s : Step) (r : Bool) (w : ℕ) (P : Turn → Type 0) → P (mishap h r) → P (record { asks = waiting; state = h })
-    → P (record { asks = writesSa (reply (h .area) s); state = HostState.withShake h (onwardFrom s r) }) → P (expecting h s r w)
+expecting-is : (h : Host) (s : Step) (r : Bool) (w : ℕ) (P : Turn → Type 0) → P (mishap h r) → P (turn waiting h)
+    → P (turn (writesSa (reply (h .area) s)) (HostState.withShake h (onwardFrom s r))) → P (expecting h s r w)
 unfolding expecting
 expecting-is h s r w P p q t = go (isSet er w) (eqb (of stepBits w) 0 || eqb (of stepBits w) (oldOf s)) (eqb (of stepBits w) (bitOf s) && echoes (h .area) s w)
   where
     go : (x y z : Bool)
-        → P (cond x (mishap h r) (cond y (record { asks = waiting; state = h }) (cond z (record { asks = writesSa (reply (h .area) s); state = HostState.withShake h (onwardFrom s r) }) (mishap h r))))
+        → P (cond x (mishap h r) (cond y (turn waiting h) (cond z (turn (writesSa (reply (h .area) s)) (HostState.withShake h (onwardFrom s r))) (mishap h r))))
     go true y z = p
     go false true z = q
     go false false true = t
@@ -129,10 +130,10 @@ module _ (y : Made) (a : Area) (long : ℕ) where
         → Stand (obeyed (HostState.withShake (pairOf (at s r m) .host) (onwardFrom s r)) (pairOf (at s r m) .port) (pairOf (at s r m) .memory) (writesSa (reply a s)))
     unfolding Stand
     answered One r m e f =
-        inr (record { place = at Two r m; size = e; inside = f; is = ap (λ (o : PortState.Outcome). pair (host-at (Expect Two r)) (o .state) (o .memory)) (hears heard-one no-wrap m) })
+        inr (record { place = at Two r m; size = e; inside = f; is = ap (λ (o : Outcome Port). pair (host-at (Expect Two r)) (o .state) (o .memory)) (hears heard-one no-wrap m) })
     answered Two r m e f = inr (record { place = at Three r m; size = e; inside = f; is = second-heard r m })
     answered Three r m e f =
-        inr (record { place = at Four r m; size = e; inside = f; is = ap (λ (o : PortState.Outcome). pair (host-at (Expect Four r)) (o .state) (o .memory)) (hears-third m f) })
+        inr (record { place = at Four r m; size = e; inside = f; is = ap (λ (o : Outcome Port). pair (host-at (Expect Four r)) (o .state) (o .memory)) (hears-third m f) })
     answered Four r m e f = inr (record { place = done m; size = e; inside = f; is = go-heard r m })
 
     -- the memory that a stage stands over has the same length, and the area lies in it

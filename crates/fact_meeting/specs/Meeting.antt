@@ -14,7 +14,7 @@ use Rattle.port_state.specs.Shake.{saOf, saWritten}
 use Rattle.port_state.specs.declared.state.Phase.the-variants.{Running}
 use Rattle.port_state.specs.declared.state.Port.{Port}
 use Rattle.host_state.specs.State as HostState
-use Rattle.host_state.specs.Shake.{Asks, writesIp, writesSa, waiting, dead, none, portFatal, refused, accepts, areaOf, begun, saSeen, timeUp}
+use Rattle.host_state.specs.Shake.{Asks, writesIp, writesSa, waiting, dead, none, portFatal, refuses, accepts, areaOf, begun, saSeen, timeUp}
 use Rattle.host_state.specs.declared.state.Shake.the-variants.{Finished}
 use Rattle.host_state.specs.declared.state.Beginning.{Beginning}
 use Rattle.host_state.specs.declared.state.Host.{Host}
@@ -35,7 +35,7 @@ obeyed h p m waiting = pair h p m
 obeyed h p m dead = pair h p m
 obeyed h p m none = pair h p m
 obeyed h p m (portFatal x) = pair h p m
-obeyed h p m (refused k) = pair h p m
+obeyed h p m (refuses k) = pair h p m
 
 -- The host begins.
 unfoldable pub opened : Beginning → Pair → Pair
@@ -54,11 +54,15 @@ abbrev pub running : Beginning → Port → Memory → Pair
 running b p m =
     pair (HostState.fresh Finished (areaOf b)) (PortState.withPhase (PortState.fresh (p .made)) (Running (areaOf b) goWord)) (areaCleared addressBits m (areaOf b))
 
--- Four exchanges bring any host and any port there, whatever either was doing before, where the settings are good and the area
+-- "Four exchanges": one for each step of the handshake.
+abbrev pub enough : ℕ
+enough = 4
+
+-- They bring any host and any port there, whatever either was doing before, where the settings are good and the area
 -- lies in memory; and the words say the settings that were asked for.
 pub record Meets (b : Beginning) (x : Pair) : Type 0 where
-  pub meet : exchanges 4 (opened b x) ≡ running b (x .port) (x .memory)
-  pub quiet : saOf (exchanges 4 (opened b x) .port) ≡ 0
+  pub meet : exchanges enough (opened b x) ≡ running b (x .port) (x .memory)
+  pub quiet : saOf (exchanges enough (opened b x) .port) ≡ 0
   pub command : exponent (areaOf b) Command ≡ b .command
   pub response : exponent (areaOf b) Response ≡ b .response
   pub interrupts : isSet ie (areaOf b .first) ≡ b .interrupts
@@ -69,6 +73,10 @@ pub record Meets (b : Beginning) (x : Pair) : Type 0 where
 pub data Sight : Type 0 where
   shown : ℕ → Sight
   late : Sight
+
+-- One of each kind.
+abbrev pub sights : List Sight
+sights = shown 0 ∷ late ∷ []
 
 abbrev pub sees : Sight → Pair → Pair
 sees (shown w) x = obeyed (saSeen (x .host) w .state) (x .port) (x .memory) (saSeen (x .host) w .asks)

@@ -15,7 +15,7 @@ pub met : Met
 unfolding zeros byteAt withByte wordOf withText padded usable inside lies withWord cleared faultOf carriedOf leftOf slots base slotAt nextOf envelopeAt fits slotSet slotsSet setUp creditsOf posted isReady setUpBy
 met =
     record {
-      send = record { ready = refl; idle = refl; short = lit≤ tt; credit = lit≤ tt; index = lit< tt; area-fits = refl; free = refl };
+      send = record { ready = refl; idle = refl; short = lit≤ tt; credit = lit≤ tt; index = lit< tt; area-fits = refl; near = lit≤ tt; free = refl };
       fetch =
           record {
             runs = refl;
@@ -33,12 +33,12 @@ met =
             runs = refl;
             idle = refl;
             short = lit≤ tt;
-            waits = λ e. lit≤ tt;
+            fetched = λ e. lit≤ tt;
             index = lit< tt;
             rings = record { low = lit≤ tt; high = lit≤ tt };
             mine = refl;
             above = lit≤ tt;
             below = lit≤ tt;
           };
-      take = record { ready = refl; idle = refl; index = lit< tt; area-fits = refl; back = refl; sound = refl; room = lit≤ tt };
+      take = record { ready = refl; idle = refl; index = lit< tt; area-fits = refl; near = lit≤ tt; back = refl; sound = refl; room = lit≤ tt };
     }

@@ -6,13 +6,14 @@ use mathlib.Core.Bool.{false}
 use mathlib.Core.List.{List, [], _∷_, _++_}
 use native.Mathlib.Omega.{arith}
 use lib.ListN.{length}
+use Rattle.base_side.specs.Step.{Outcome}
 use Rattle.base_memory.specs.Memory.{Memory, usable, wordIn, withWord}
 use Rattle.base_memory.specs.OneWord.{found}
 use Rattle.base_memory.specs.declared.Word.the-variants.{Value}
 use Rattle.base_memory.specs.declared.Touch.the-variants.{Read, Write}
 use Rattle.base_memory.proofs.Laws.{inside-yes, wordAt-yes, withWord-length}
 use Rattle.base_answers.specs.Told.{Told, told, going}
-use Rattle.fact_progress.specs.Alone.{Out, out, EndsAfter, goes, Put, written}
+use Rattle.fact_progress.specs.Alone.{out, EndsAfter, goes, Put, written}
 
 -- a word inside is found
 module _ (n : ℕ) (m : Memory) (a : ℕ) (h : a + 2 ≤ usable n (length m)) where
@@ -36,13 +37,13 @@ pub still : (n a : ℕ) (k m : Memory) → length k ≡ length m → a ≤ usabl
 still n a k m e l = rw e l
 
 -- the same end, its number of steps said otherwise
-module _ {S : Type 0} {step : S → Memory → Out S} where
+module _ {S : Type 0} {step : S → Memory → Outcome S} where
   pub counted : {k k′ : ℕ} {s s′ : S} {m m′ : Memory} {t : Told} → k ≡ k′ → EndsAfter step k s m t s′ m′ → EndsAfter step k′ s m t s′ m′
   counted e x = rw (← e) x
 
 -- The loop over a text's words: `at l k x` is the state with word k next after word l, x what changes on the way (memory, or the room),
 -- `next` one word more of it, `after` all that are left.
-module _ {S A : Type 0} (step : S → Memory → Out S) (at : ℕ → ℕ → A → S) (mem : A → Memory) (next : ℕ → A → A) (after : ℕ → ℕ → A → A)
+module _ {S A : Type 0} (step : S → Memory → Outcome S) (at : ℕ → ℕ → A → S) (mem : A → Memory) (next : ℕ → A → A) (after : ℕ → ℕ → A → A)
     (Good : A → Type 0) (words : ℕ)
     (none : (k : ℕ) (x : A) → after k 0 x ≡ x)
     (more : (k j : ℕ) (x : A) → after k (suc j) x ≡ after (k + 1) j (next k x))

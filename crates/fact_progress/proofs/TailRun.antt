@@ -17,15 +17,15 @@ use Rattle.base_area.specs.declared.Area.{Area}
 use Rattle.base_area.specs.declared.Ring.{Ring}
 use Rattle.base_area.specs.declared.Ring.the-variants.{Command, Response}
 use Rattle.fact_layout.proofs.Rings.{every-layout, number-lt}
-use Rattle.port_state.specs.State.{with-memory, onward}
-use Rattle.port_state.specs.Tail.{tailStart, tailTouch, tailAfter}
-use Rattle.port_state.specs.declared.state.Cursor.{Cursor}
+use Rattle.base_side.specs.Step.{Outcome, with-memory, onward}
+use Rattle.port_state.specs.Tail.{tailStart, tailAsks, testFollows, markFollows, tailFollows}
+use Rattle.base_side.specs.declared.Cursor.{Cursor}
 use Rattle.port_state.specs.declared.state.TailStage.{TailStage}
 use Rattle.port_state.specs.declared.state.TailStage.the-variants.{Test, Mark}
 use Rattle.port_state.specs.declared.state.TailEnd.the-variants.{Onward, Closed}
 use Rattle.port_state.specs.declared.state.Port.{Port}
-use Rattle.fact_progress.specs.Alone.{Out, out, EndsAfter, closes, goes, tailSteps, tailMemory, tailInterrupt}
-use Rattle.fact_progress.specs.Progress.{portOut, stepsFor, RingsIn, withTail}
+use Rattle.fact_progress.specs.Alone.{out, EndsAfter, closes, goes, tailSteps, tailMemory, tailInterrupt}
+use Rattle.fact_progress.specs.Progress.{stepsFor, RingsIn, withTail}
 use Rattle.fact_progress.proofs.Runs.{found-read, found-write, counted}
 
 -- a port's slots and indicators in memory
@@ -49,32 +49,32 @@ pub rings-kept : (n : ℕ) (a : Area) (k m : Memory) → length k ≡ length m �
 rings-kept n a k m e rings = record { low = rings .low; high = rw e (rings .high) }
 
 -- the tail, of either side: what its steps do, told by what they find
-module _ (n : ℕ) (a : Area) (r : Ring) (c : Cursor) (step : Port → Memory → Out Port) (at : TailStage → Port) (ans : Bool → Told) (end : Port)
-    (on : (s : TailStage) (k : Memory) → tailAfter a s (found n k (tailTouch n a r s c)) ≡ Onward
-    → step (at s) k ≡ out (told going false) (at Mark) (left n k (tailTouch n a r s c)))
-    (off : (s : TailStage) (k : Memory) (i : Bool) → tailAfter a s (found n k (tailTouch n a r s c)) ≡ Closed i
-    → step (at s) k ≡ out (ans i) end (left n k (tailTouch n a r s c)))
+module _ (n : ℕ) (a : Area) (r : Ring) (c : Cursor) (step : Port → Memory → Outcome Port) (at : TailStage → Port) (ans : Bool → Told) (end : Port)
+    (on : (s : TailStage) (k : Memory) → tailFollows a s (found n k (tailAsks n a r s c)) ≡ Onward
+    → step (at s) k ≡ out (told going false) (at Mark) (left n k (tailAsks n a r s c)))
+    (off : (s : TailStage) (k : Memory) (i : Bool) → tailFollows a s (found n k (tailAsks n a r s c)) ≡ Closed i
+    → step (at s) k ≡ out (ans i) end (left n k (tailAsks n a r s c)))
     (m : Memory) (rings : RingsIn n a m) (index : c .slot < slots a r)
   where
     abbrev previous : ℕ
     previous = wordIn m (slotAt n a r (beforeOf a r (c .slot)) + 2)
 
     mark : step (at Mark) m ≡ out (ans (hasVector (a .first))) end (left n m (indicator n a r 1))
-    unfolding tailTouch tailAfter
+    unfolding tailAsks testFollows markFollows
     mark = off Mark m (hasVector (a .first)) (rw (marked n a m rings r))
 
-    previous-found : found n m (tailTouch n a r Test c) ≡ Value previous
-    unfolding tailTouch
+    previous-found : found n m (tailAsks n a r Test c) ≡ Value previous
+    unfolding tailAsks
     previous-found =
         found-read n m (slotAt n a r (beforeOf a r (c .slot)) + 2)
         (omega (arith, slot-in n a m rings r (beforeOf a r (c .slot)) (every-layout .ring a r .before-in (c .slot) index)))
 
     test-on : isSet owner previous ≡ true → step (at Test) m ≡ out (told going false) (at Mark) m
-    unfolding tailTouch tailAfter
+    unfolding tailAsks testFollows markFollows
     test-on e = on Test m (rw (previous-found, e))
 
     test-off : isSet owner previous ≡ false → step (at Test) m ≡ out (ans false) end m
-    unfolding tailTouch tailAfter
+    unfolding tailAsks testFollows markFollows
     test-off e = off Test m false (rw (previous-found, e))
 
     pub tail-ends : EndsAfter step (tailSteps n a r (c .slot) m) (at (tailStart a r)) m (ans (tailInterrupt n a r (c .slot) m)) end (tailMemory n a r (c .slot) m)
@@ -89,7 +89,7 @@ module _ (n : ℕ) (a : Area) (r : Ring) (c : Cursor) (step : Port → Memory �
 
     -- the write that gives the slot up, and the tail where F was 1
     pub released : (s : Port) (k : Memory) (f : Bool)
-        → step s k ≡ portOut (with-memory (cond f (onward (at (tailStart a r))) (record { told = ans false; state = end })) m)
+        → step s k ≡ (with-memory (cond f (onward (at (tailStart a r))) (record { told = ans false; state = end })) m)
         → EndsAfter step (withTail n f a r (c .slot) m 1) s k (ans (cond f (tailInterrupt n a r (c .slot) m) false)) end (cond f (tailMemory n a r (c .slot) m) m)
     released s k true e = counted (omega arith) (goes e tail-ends)
     released s k false e = closes e

@@ -3,6 +3,7 @@ use Prim.Native.Nat.{ℕ, zero, suc, _+_, _*_}
 use mathlib.Core.Path.{_≡_}
 use mathlib.Core.Bool.{Bool, false, cond, _&&_, _||_}
 use mathlib.Core.List.{List, [], _∷_}
+use Rattle.base_side.specs.Step.{Outcome}
 use Rattle.base_words.specs.Fields.{isSet, owner}
 use Rattle.base_texts.specs.Texts.{wordOf, withText}
 use Rattle.base_memory.specs.Memory.{Memory, wordIn, withWord}
@@ -13,17 +14,12 @@ use Rattle.base_area.specs.declared.Area.{Area}
 use Rattle.base_area.specs.declared.Ring.{Ring}
 
 -- What a step leaves, of either half.
-pub record Out (S : Type 0) : Type 0 where
-  pub told : Told
-  pub state : S
-  pub memory : Memory
-
-abbrev pub out : {S : Type 0} → Told → S → Memory → Out S
+abbrev pub out : {S : Type 0} → Told → S → Memory → Outcome S
 out t s m = record { told = t; state = s; memory = m }
 
 -- `EndsAfter step k s m t s′ m′`: stepped alone from s over m, the operation answers "going" k - 1 times and closes at
 -- step k with t, leaving s′ and m′.
-pub data EndsAfter {S : Type 0} (step : S → Memory → Out S) : ℕ → S → Memory → Told → S → Memory → Type 0 where
+pub data EndsAfter {S : Type 0} (step : S → Memory → Outcome S) : ℕ → S → Memory → Told → S → Memory → Type 0 where
   closes : {s s′ : S} {m m′ : Memory} {t : Told} → step s m ≡ out t s′ m′ → EndsAfter step 1 s m t s′ m′
   goes : {k : ℕ} {s s₁ s′ : S} {m m₁ m′ : Memory} {t : Told} → step s m ≡ out (told going false) s₁ m₁ → EndsAfter step k s₁ m₁ t s′ m′
       → EndsAfter step (suc k) s m t s′ m′

@@ -50,4 +50,4 @@ pub record Met : Type 0 where
   pub send : MaySend addressBits host0 text memory0
   pub fetch : MayFetch addressBits port0 area memory1
   pub post : MayPost addressBits port1 area true text memory2
-  pub take : MayTake addressBits (afterSend host0 text) memory3
+  pub take : MayTake addressBits (afterSend host0 (record { flag = false }) text) memory3

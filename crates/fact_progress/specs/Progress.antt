@@ -6,6 +6,7 @@ use mathlib.Core.Path.{_≡_}
 use mathlib.Core.Bool.{Bool, true, false, cond}
 use mathlib.Core.List.{List, [], _∷_, _++_}
 use lib.ListN.{length}
+use Rattle.base_side.specs.Place.{startOf}
 use Rattle.base_words.specs.Fields.{of, isSet, owner, flagged, connection, messageType, credits}
 use Rattle.base_words.specs.Words.{addressOf, lowWord, withAddress, highWord, headerWord}
 use Rattle.base_texts.specs.Texts.{zeros, wordsOf, padded}
@@ -21,25 +22,16 @@ use Rattle.base_area.specs.declared.Ring.the-variants.{Command, Response}
 use Rattle.port_state.specs.State as PortState
 use Rattle.port_state.specs.Fetch.{creditOut, fetchStep, fetchBegun}
 use Rattle.port_state.specs.Post.{creditsOf, posted, postStep, postBegun}
-use Rattle.port_state.specs.declared.state.Site.the-variants.{On}
-use Rattle.port_state.specs.declared.state.Fetcher.the-variants.{NoFetch}
-use Rattle.port_state.specs.declared.state.Poster.the-variants.{NoPost}
+use Rattle.port_state.specs.declared.state.Serving.the-variants.{On}
+use Rattle.port_state.specs.declared.state.Side.the-variants as P
 use Rattle.port_state.specs.declared.state.Port.{Port}
 use Rattle.host_state.specs.State as HostState
 use Rattle.host_state.specs.Send.{sendStep, sendBegun}
 use Rattle.host_state.specs.Take.{takeStep, takeBegun}
 use Rattle.host_state.specs.declared.state.Asked.{Asked}
-use Rattle.host_state.specs.declared.state.Sender.the-variants.{NoSend}
-use Rattle.host_state.specs.declared.state.Taker.the-variants.{NoTake}
+use Rattle.host_state.specs.declared.state.Side.the-variants as H
 use Rattle.host_state.specs.declared.state.Host.{Host}
-use Rattle.fact_progress.specs.Alone.{Out, out, EndsAfter, Put, put, written, textPuts, textGot, tailSteps, tailMemory, tailInterrupt}
-
--- A step of each side, as an `Out`.
-abbrev pub hostOut : HostState.Outcome → Out Host
-hostOut o = out (o .told) (o .state) (o .memory)
-
-abbrev pub portOut : PortState.Outcome → Out Port
-portOut o = out (o .told) (o .state) (o .memory)
+use Rattle.fact_progress.specs.Alone.{EndsAfter, Put, put, written, textPuts, textGot, tailSteps, tailMemory, tailInterrupt}
 
 -- A step of a half's side with nothing said of a tail: slot, the 5 words beside the text, and the text's words.
 abbrev pub stepsFor : ℕ → ℕ
@@ -47,14 +39,16 @@ stepsFor size = 5 + wordsOf size
 
 ---------------------------------------------------------------- send
 
--- A send of text t with flag f: the host is ready, its send side idle, it has a credit, and its own slot is free.
+-- A send of text t: the host is ready, its send side idle, it has a credit, and its own slot is free. What counts of memory ends
+-- within 32 bits, as it does for every number of address bits up to 31.
 pub record MaySend (n : ℕ) (h : Host) (t : List ℕ) (m : Memory) : Type 0 where
   pub ready : HostState.isReady h ≡ true
-  pub idle : h .sender ≡ NoSend
+  pub idle : h .sender ≡ H.Idle
   pub short : length t ≤ 60
   pub credit : 1 ≤ h .counts .account
   pub index : h .counts .send < slots (h .area) Command
   pub area-fits : fits n (h .area) (h .pool) (usable n (length m)) ≡ true
+  pub near : usable n (length m) ≤ 4294967295
   pub free : isSet owner (wordIn m (slotAt n (h .area) Command (h .counts .send) + 2)) ≡ false
 
 abbrev pub sendEnvelope : Host → ℕ
@@ -72,14 +66,14 @@ sendPuts n h f t m =
     ∷ []))
 
 -- The host afterwards: next slot, one credit less, the side idle.
-abbrev pub afterSend : Host → List ℕ → Host
-afterSend h t =
-    HostState.withCounts (HostState.withOutgoing h (padded t))
+abbrev pub afterSend : Host → Asked → List ℕ → Host
+afterSend h x t =
+    HostState.withCounts (HostState.withOutgoing h (padded t) x)
     (record { send = nextOf (h .area) Command (h .counts .send); take = h .counts .take; account = h .counts .account - 1 })
 
 pub record SendEnds (n : ℕ) (h : Host) (x : Asked) (t : List ℕ) (m : Memory) : Type 0 where
   pub begins : sendBegun h x t .told ≡ told going false
-  pub ends : EndsAfter (λ s k. hostOut (sendStep n s k)) (stepsFor (length t)) (sendBegun h x t .state) m (told done false) (afterSend h t)
+  pub ends : EndsAfter (sendStep n) (stepsFor (length t)) (sendBegun h x t .state) m (told done false) (afterSend h x t)
       (written n m (sendPuts n h (x .flag) t m))
 
 ---------------------------------------------------------------- take
@@ -87,9 +81,10 @@ pub record SendEnds (n : ℕ) (h : Host) (x : Asked) (t : List ℕ) (m : Memory)
 -- A take: the host is ready, its take side idle, its own slot has come back, and the envelope is sound.
 pub record MayTake (n : ℕ) (h : Host) (m : Memory) : Type 0 where
   pub ready : HostState.isReady h ≡ true
-  pub idle : h .taker ≡ NoTake
+  pub idle : h .taker ≡ H.Idle
   pub index : h .counts .take < slots (h .area) Response
   pub area-fits : fits n (h .area) (h .pool) (usable n (length m)) ≡ true
+  pub near : usable n (length m) ≤ 4294967295
   pub back : isSet owner (wordIn m (slotAt n (h .area) Response (h .counts .take) + 2)) ≡ false
   pub sound : faultOf (of messageType (wordIn m (envelopeAt (h .area) (h .pool) Response (h .counts .take) + 2)))
       (of connection (wordIn m (envelopeAt (h .area) (h .pool) Response (h .counts .take) + 2)))
@@ -114,7 +109,7 @@ takeText h m = textGot m (takeEnvelope h) zeros (takeSize h m) 0 (wordsOf (takeS
 
 abbrev pub afterTake : Host → Memory → Host
 afterTake h m =
-    HostState.withCounts (HostState.withIncoming h (takeText h m))
+    HostState.withCounts (HostState.withIncoming h (takeText h m) (of credits (wordIn m (takeEnvelope h + 2))))
     (record {
       send = h .counts .send;
       take = nextOf (h .area) Response (h .counts .take);
@@ -123,7 +118,7 @@ afterTake h m =
 
 pub record TakeEnds (n : ℕ) (h : Host) (m : Memory) : Type 0 where
   pub begins : takeBegun h .told ≡ told going false
-  pub ends : EndsAfter (λ s k. hostOut (takeStep n s k)) (stepsFor (takeSize h m)) (takeBegun h .state) m (carried (takeSize h m) (takeText h m) false) (afterTake h m)
+  pub ends : EndsAfter (takeStep n) (stepsFor (takeSize h m)) (takeBegun h .state) m (carried (takeSize h m) (takeText h m) false) (afterTake h m)
       (written n m (takePuts n h m))
 
 ---------------------------------------------------------------- the port's rings
@@ -150,8 +145,8 @@ withTail n f a r i m k = cond f (k + tailSteps n a r i m) k
 ---------------------------------------------------------------- fetch
 
 pub record MayFetch (n : ℕ) (p : Port) (a : Area) (m : Memory) : Type 0 where
-  pub runs : PortState.siteOf (p .phase) ≡ On a
-  pub idle : p .fetcher ≡ NoFetch
+  pub runs : PortState.servingOf (p .phase) ≡ On a
+  pub idle : p .fetcher ≡ P.Idle
   pub index : p .counts .fetch < slots a Command
   pub rings : RingsIn n a m
   pub mine : isSet owner (highAt n a Command (p .counts .fetch) m) ≡ true
@@ -184,7 +179,7 @@ afterFetch n p a m =
 
 pub record FetchEnds (n : ℕ) (p : Port) (a : Area) (m : Memory) : Type 0 where
   pub begins : fetchBegun p .told ≡ told going false
-  pub ends : EndsAfter (λ s k. portOut (fetchStep n s k))
+  pub ends : EndsAfter (fetchStep n)
       (withTail n (fetchFlag n p a m) a Command (p .counts .fetch) (fetchLeft n p a m) (stepsFor (fetchSize n p a m)))
       (fetchBegun p .state) m
       (carried (fetchSize n p a m) (fetchGot n p a m) (cond (fetchFlag n p a m) (tailInterrupt n a Command (p .counts .fetch) (fetchLeft n p a m)) false))
@@ -195,10 +190,10 @@ pub record FetchEnds (n : ℕ) (p : Port) (a : Area) (m : Memory) : Type 0 where
 
 -- A post of text t, as an answer or unsolicited: an answer needs an open command.
 pub record MayPost (n : ℕ) (p : Port) (a : Area) (answers : Bool) (t : List ℕ) (m : Memory) : Type 0 where
-  pub runs : PortState.siteOf (p .phase) ≡ On a
-  pub idle : p .poster ≡ NoPost
+  pub runs : PortState.servingOf (p .phase) ≡ On a
+  pub idle : p .poster ≡ P.Idle
   pub short : length t ≤ 60
-  pub waits : answers ≡ true → 1 ≤ p .counts .unanswered
+  pub fetched : answers ≡ true → 1 ≤ p .counts .unanswered
   pub index : p .counts .post < slots a Response
   pub rings : RingsIn n a m
   pub mine : isSet owner (highAt n a Response (p .counts .post) m) ≡ true
@@ -211,11 +206,15 @@ postEnvelope n p a m = textAt n a Response (p .counts .post) m - 4
 abbrev pub postFlag : ℕ → Port → Area → Memory → Bool
 postFlag n p a m = isSet flagged (highAt n a Response (p .counts .post) m)
 
+-- The port with the text and what was asked of it.
+abbrev pub asking : Port → Bool → List ℕ → Port
+asking p answers t = PortState.withOutgoing p (padded t) (record { answers = answers })
+
 -- "write length; header (credits, other bits 0); text words; high word with O=0, F=1".
 abbrev pub postPuts : ℕ → Port → Area → Bool → List ℕ → Memory → List Put
 postPuts n p a answers t m =
     put (postEnvelope n p a m) (length t)
-    ∷ put (postEnvelope n p a m + 2) (headerWord (creditsOf p (PortState.startOf 0 0 answers)))
+    ∷ put (postEnvelope n p a m + 2) (headerWord (creditsOf (asking p answers t)))
     ∷ (textPuts (postEnvelope n p a m) (padded t) (length t) 0 (wordsOf (length t)) ++ (release n a Response (p .counts .post) m ∷ []))
 
 abbrev pub postLeft : ℕ → Port → Area → Bool → List ℕ → Memory → Memory
@@ -223,13 +222,13 @@ postLeft n p a answers t m = written n m (postPuts n p a answers t m)
 
 -- The port afterwards: next slot; an answer closes a command and grants what it carries.
 abbrev pub afterPost : Port → Area → Bool → List ℕ → Port
-afterPost p a answers t = posted (PortState.withOutgoing p (padded t)) a (PortState.startOf (p .counts .post) (length t) answers)
+afterPost p a answers t = posted (asking p answers t) a (startOf (p .counts .post) 0 (length t))
 
 pub record PostEnds (n : ℕ) (p : Port) (a : Area) (answers : Bool) (t : List ℕ) (m : Memory) : Type 0 where
-  pub begins : postBegun p answers t .told ≡ told going false
-  pub ends : EndsAfter (λ s k. portOut (postStep n s k))
+  pub begins : postBegun p (record { answers = answers }) t .told ≡ told going false
+  pub ends : EndsAfter (postStep n)
       (withTail n (postFlag n p a m) a Response (p .counts .post) (postLeft n p a answers t m) (stepsFor (length t)))
-      (postBegun p answers t .state) m
+      (postBegun p (record { answers = answers }) t .state) m
       (told done (cond (postFlag n p a m) (tailInterrupt n a Response (p .counts .post) (postLeft n p a answers t m)) false))
       (afterPost p a answers t)
       (cond (postFlag n p a m) (tailMemory n a Response (p .counts .post) (postLeft n p a answers t m)) (postLeft n p a answers t m))

@@ -7,6 +7,8 @@ use native.Mathlib.Omega.{arith}
 use lib.Dec.{leb, eqb}
 use lib.ListN.{length, getD, set}
 use borrow.Author.Tests.{leb-true, le-leb}
+use Rattle.base_side.specs.Place.{startOf}
+use Rattle.base_side.specs.Step.{Next, Outcome, stepped, with-memory, denied}
 use Rattle.base_words.specs.Fields.{of, isSet, pi}
 use Rattle.base_words.specs.Words.{goWord}
 use Rattle.base_texts.specs.Texts.{zeros, padded}
@@ -22,29 +24,30 @@ use Rattle.base_area.specs.declared.Ring.{Ring}
 use Rattle.base_area.specs.declared.Ring.the-variants.{Command, Response}
 use Rattle.port_state.specs.State as PortState
 use Rattle.port_state.specs.Shake.{ignored, heard, saWritten}
-use Rattle.port_state.specs.Fetch.{fetchTouch, fetchHigh, fetchAfter, fetchStep, fetchBegun, refuseFetch}
-use Rattle.port_state.specs.Post.{postTouch, postHigh, postAfter, postStep, postBegun, postWith, refusePost}
-use Rattle.port_state.specs.declared.state.Cursor.{Cursor}
+use Rattle.port_state.specs.Fetch.{fetchAsks, fetchHigh, fetchFollows, fetchStep, fetchBegins, fetchBegun}
+use Rattle.port_state.specs.Side as PortStep
+use Rattle.port_state.specs.Side.{portStep, portBegun}
+use Rattle.port_state.specs.Post.{postAsks, postHigh, postFollows, postStep, postBegun, postBegins}
+use Rattle.base_side.specs.declared.Cursor.{Cursor}
 use Rattle.port_state.specs.declared.state.Made.{Made}
 use Rattle.port_state.specs.declared.state.Stage.the-variants as S
 use Rattle.port_state.specs.declared.state.Phase.{Phase}
 use Rattle.port_state.specs.declared.state.Phase.the-variants.{Running}
-use Rattle.port_state.specs.declared.state.Fetcher.{Fetcher}
-use Rattle.port_state.specs.declared.state.Fetcher.the-variants.{NoFetch, Fetching, FetchTail}
-use Rattle.port_state.specs.declared.state.Poster.{Poster}
-use Rattle.port_state.specs.declared.state.Poster.the-variants.{NoPost, Posting, PostTail}
+use Rattle.port_state.specs.declared.state.Side.{Side as Fetcher, Side as Poster}
+use Rattle.port_state.specs.declared.state.Side.the-variants.{Idle as NoFetch, At as Fetching, Tail as FetchTail, Idle as NoPost, At as Posting, Tail as PostTail}
 use Rattle.port_state.specs.declared.state.Port.{Port}
 use Rattle.host_state.specs.State as HostState
 use Rattle.host_state.specs.State.{isReady}
 use Rattle.host_state.specs.Shake.{sawBy, saSeen, lateBy, timeUp}
-use Rattle.host_state.specs.Setup.{denied, clearedBy, indicatorCleared}
-use Rattle.host_state.specs.Send.{refuseSend, sendStep, sendBegun}
-use Rattle.host_state.specs.Take.{refuseTake, takeStep, takeBegun}
+use Rattle.host_state.specs.Setup.{clearFollows, indicatorCleared}
+use Rattle.host_state.specs.Side as HostStep
+use Rattle.host_state.specs.Side.{hostStep, hostBegun}
+use Rattle.host_state.specs.Send.{sendStep, sendBegun}
+use Rattle.host_state.specs.Take.{takeStep, takeBegun}
 use Rattle.host_state.specs.declared.state.Asked.{Asked}
 use Rattle.host_state.specs.declared.state.Shake.{Shake}
 use Rattle.host_state.specs.declared.state.Shake.the-variants.{Finished}
-use Rattle.host_state.specs.declared.state.Sender.the-variants.{NoSend}
-use Rattle.host_state.specs.declared.state.Taker.the-variants.{NoTake}
+use Rattle.host_state.specs.declared.state.Side.the-variants.{Idle as NoSend, Idle as NoTake}
 use Rattle.host_state.specs.declared.state.Host.{Host}
 use Rattle.fact_traffic.specs.World.{World, world, Ev, beginSend, stepSend, beginTake, stepTake, beginFetch, stepFetch, beginPost, stepPost, clearMark, readSa, writeSa, showSa, timeIsUp, Bytes, Proper, act, final}
 use Rattle.fact_traffic.specs.Traffic.{AllProper}
@@ -119,19 +122,19 @@ zero-mark n m a r e =
 
 -- what the host's calls come to before the setup
 send-begun-off : (g : Host) (x : Asked) (t : List ℕ) → isReady g ≡ false → sendBegun g x t .state ≡ g
-unfolding sendBegun isReady
+unfolding sendBegun isReady hostBegun
 send-begun-off g x t e = rw e
 
-send-off : (n : ℕ) (g : Host) (k : Memory) → isReady g ≡ false → sendStep n g k ≡ HostState.with-memory (refuseSend g 1) k
-unfolding sendStep isReady
+send-off : (n : ℕ) (g : Host) (k : Memory) → isReady g ≡ false → sendStep n g k ≡ with-memory (HostStep.refuse g Command 1) k
+unfolding sendStep isReady hostStep
 send-off n g k e = rw e
 
 take-begun-off : (g : Host) → isReady g ≡ false → takeBegun g .state ≡ g
-unfolding takeBegun isReady
+unfolding takeBegun isReady hostBegun
 take-begun-off g e = rw e
 
-take-off : (n : ℕ) (g : Host) (k : Memory) → isReady g ≡ false → takeStep n g k ≡ HostState.with-memory (refuseTake g 1) k
-unfolding takeStep isReady
+take-off : (n : ℕ) (g : Host) (k : Memory) → isReady g ≡ false → takeStep n g k ≡ with-memory (HostStep.refuse g Response 1) k
+unfolding takeStep isReady hostStep
 take-off n g k e = rw e
 
 seen-off : (g : Host) (v : ℕ) → g .shake ≡ Finished → saSeen g v .state ≡ g
@@ -142,17 +145,17 @@ late-off : (g : Host) → g .shake ≡ Finished → timeUp g .state ≡ g
 unfolding timeUp
 late-off g e = ap (λ (y : Shake). lateBy g y .state) e
 
-clear-state : (g : Host) (k : Memory) (w : Word) → clearedBy g k w ≡ record { told = clearedBy g k w .told; state = g; memory = k }
-clear-state g k Outside = refl
-clear-state g k (Value v) = refl
+clear-state : (g : Host) (w : Word) → clearFollows g w .state ≡ g
+clear-state g Outside = refl
+clear-state g (Value v) = refl
 
 clear-off : (n : ℕ) (g : Host) (r : Ring) (k : Memory) → g .shake ≡ Finished
-    → indicatorCleared n g r k ≡ clearedBy g (left n k (indicator n (g .area) r 0)) (found n k (indicator n (g .area) r 0))
+    → indicatorCleared n g r k ≡ stepped n k (indicator n (g .area) r 0) (clearFollows g)
 unfolding indicatorCleared
 clear-off n g r k e =
-    ap (λ (y : Shake). cond (HostState.isFinished y) (clearedBy g (left n k (indicator n (g .area) r 0)) (found n k (indicator n (g .area) r 0))) (denied g 1 k)) e
+    ap (λ (y : Shake). cond (HostState.isFinished y) (stepped n k (indicator n (g .area) r 0) (clearFollows g)) (with-memory (denied g 1) k)) e
 
-write-off : (n : ℕ) (p : Port) (a : Area) (go v : ℕ) (k : Memory) → p .phase ≡ Running a go → saWritten n p v k ≡ PortState.with-memory (ignored p) k
+write-off : (n : ℕ) (p : Port) (a : Area) (go v : ℕ) (k : Memory) → p .phase ≡ Running a go → saWritten n p v k ≡ with-memory (ignored p) k
 unfolding saWritten
 write-off n p a go v k e = ap (λ (y : Phase). heard n p v k y) e
 
@@ -172,7 +175,7 @@ pub record PollPostOn (p : Port) (t : List ℕ) (c : Cursor) : Type 0 where
   pub short : length t ≤ 60
   pub bytes : Bytes t
   pub text : p .outgoing ≡ padded t
-  pub unsolicited : c .answers ≡ false
+  pub unsolicited : p .asked .answers ≡ false
 
 abbrev pub PollPost : Port → List ℕ → Poster → Type 0
 PollPost p t NoPost = Unit {0}
@@ -196,32 +199,33 @@ pub record Polling (a : Area) (made : Made) (m : Memory) (h : Host) (w : World) 
 
 -- what a poll's step comes to
 fetch-poll : (n : ℕ) (p : Port) (a : Area) (go : ℕ) (m : Memory) (c : Cursor) → p .phase ≡ Running a go → c .slot ≡ 0 → found n m (Read (slotAt n a Command 0 + 2)) ≡ Value 0
-    → fetchStep n (PortState.withFetcher p (Fetching S.High c)) m ≡ PortState.with-memory (refuseFetch (PortState.withFetcher p (Fetching S.High c)) 7) m
-unfolding fetchStep fetchAfter fetchTouch fetchHigh
+    → fetchStep n (PortState.withFetcher p (Fetching S.High c)) m ≡ with-memory (PortStep.refuse (PortState.withFetcher p (Fetching S.High c)) Command 7) m
+unfolding fetchStep fetchFollows fetchAsks fetchHigh portStep
 fetch-poll n p a go m c r s f = rw (r, s, f)
 
 fetch-none : (n : ℕ) (p : Port) (a : Area) (go : ℕ) (m : Memory) → p .phase ≡ Running a go
-    → fetchStep n (PortState.withFetcher p NoFetch) m ≡ PortState.with-memory (refuseFetch (PortState.withFetcher p NoFetch) 12) m
-unfolding fetchStep
+    → fetchStep n (PortState.withFetcher p NoFetch) m ≡ with-memory (PortStep.refuse (PortState.withFetcher p NoFetch) Command 12) m
+unfolding fetchStep portStep
 fetch-none n p a go m r = rw r
 
 post-poll : (n : ℕ) (p : Port) (a : Area) (go : ℕ) (m : Memory) (c : Cursor) → p .phase ≡ Running a go → c .slot ≡ 0 → found n m (Read (slotAt n a Response 0 + 2)) ≡ Value 0
-    → postStep n (PortState.withPoster p (Posting S.High c)) m ≡ PortState.with-memory (refusePost (PortState.withPoster p (Posting S.High c)) 8) m
-unfolding postStep postAfter postTouch postHigh
+    → postStep n (PortState.withPoster p (Posting S.High c)) m ≡ with-memory (PortStep.refuse (PortState.withPoster p (Posting S.High c)) Response 8) m
+unfolding postStep postFollows postAsks postHigh portStep
 post-poll n p a go m c r s f = rw (r, s, f)
 
 post-none : (n : ℕ) (p : Port) (a : Area) (go : ℕ) (m : Memory) → p .phase ≡ Running a go
-    → postStep n (PortState.withPoster p NoPost) m ≡ PortState.with-memory (refusePost (PortState.withPoster p NoPost) 12) m
-unfolding postStep
+    → postStep n (PortState.withPoster p NoPost) m ≡ with-memory (PortStep.refuse (PortState.withPoster p NoPost) Response 12) m
+unfolding postStep portStep
 post-none n p a go m r = rw r
 
-begun-fetch : (p : Port) (f : Fetcher) (a : Area) (go : ℕ) → p .phase ≡ Running a go → fetchBegun (PortState.withFetcher p f) ≡ Rattle.port_state.specs.Fetch.beginBySide (PortState.withFetcher p f) f
-unfolding fetchBegun
+begun-fetch : (p : Port) (f : Fetcher) (a : Area) (go : ℕ) → p .phase ≡ Running a go → fetchBegun (PortState.withFetcher p f) ≡ cond (PortStep.isIdle f) (fetchBegins (PortState.withFetcher p f)) (denied (PortState.withFetcher p f) 2)
+unfolding fetchBegun portBegun
 begun-fetch p f a go r = rw r
 
 begun-post : (p : Port) (q : Poster) (k : Bool) (t : List ℕ) (a : Area) (go : ℕ) → p .phase ≡ Running a go
-    → postBegun (PortState.withPoster p q) k t ≡ Rattle.port_state.specs.Post.postBeginBySide (PortState.withPoster p q) k t q
-unfolding postBegun
+    → postBegun (PortState.withPoster p q) (record { answers = k }) t
+    ≡ cond (PortStep.isIdle q) (postBegins (PortState.withPoster p q) (record { answers = k }) t) (denied (PortState.withPoster p q) 2)
+unfolding postBegun portBegun
 begun-post p q k t a go r = rw r
 
 module _ (n : ℕ) (a : Area) (made : Made) (m : Memory) (zero-high : (r : Ring) → found n m (Read (slotAt n a r 0 + 2)) ≡ Value 0)
@@ -251,15 +255,15 @@ module _ (n : ℕ) (a : Area) (made : Made) (m : Memory) (zero-high : (r : Ring)
   kept-by w p′ e f c I F t P =
       record { host = I .host; memory = I .memory; phase = e ∙ I .phase; made-is = f ∙ I .made-is; counts = c ∙ I .counts; fetch = F; text = t; post = P }
 
-  post-same : (p p′ : Port) (t : List ℕ) (q : Poster) → p .outgoing ≡ p′ .outgoing → PollPost p t q → PollPost p′ t q
-  post-same p p′ t NoPost e P = tt
-  post-same p p′ t (Posting S.High c) e P = record { slot = P .slot; size = P .size; short = P .short; bytes = P .bytes; text = sym e ∙ P .text; unsolicited = P .unsolicited }
-  post-same p p′ t (Posting S.Low c) e P = P
-  post-same p p′ t (Posting S.Length c) e P = P
-  post-same p p′ t (Posting S.Header c) e P = P
-  post-same p p′ t (Posting S.Text c) e P = P
-  post-same p p′ t (Posting S.Release c) e P = P
-  post-same p p′ t (PostTail s c) e P = P
+  post-same : (p p′ : Port) (t : List ℕ) (q : Poster) → p .outgoing ≡ p′ .outgoing → p .asked .answers ≡ p′ .asked .answers → PollPost p t q → PollPost p′ t q
+  post-same p p′ t NoPost e d P = tt
+  post-same p p′ t (Posting S.High c) e d P = record { slot = P .slot; size = P .size; short = P .short; bytes = P .bytes; text = sym e ∙ P .text; unsolicited = sym d ∙ P .unsolicited }
+  post-same p p′ t (Posting S.Low c) e d P = P
+  post-same p p′ t (Posting S.Length c) e d P = P
+  post-same p p′ t (Posting S.Header c) e d P = P
+  post-same p p′ t (Posting S.Text c) e d P = P
+  post-same p p′ t (Posting S.Release c) e d P = P
+  post-same p p′ t (PostTail s c) e d P = P
 
   fetch-same : (p p′ : Port) (q : Fetcher) → p .incoming ≡ p′ .incoming → PollFetch p q → PollFetch p′ q
   fetch-same p p′ NoFetch e P = tt
@@ -274,11 +278,11 @@ module _ (n : ℕ) (a : Area) (made : Made) (m : Memory) (zero-high : (r : Ring)
   module _ (g : Host) (p : Port) (k : Memory) where
     step-fetch : (f : Fetcher) → Polling a made m h (world g (PortState.withFetcher p f) k) → Polling a made m h (act n stepFetch (world g (PortState.withFetcher p f) k) .next)
     step-fetch NoFetch I =
-        subst (λ (o : PortState.Outcome). Polling a made m h (world g (o .state) (o .memory))) (sym (fetch-none n p a goWord k (I .phase))) I
+        subst (λ (o : Outcome Port). Polling a made m h (world g (o .state) (o .memory))) (sym (fetch-none n p a goWord k (I .phase))) I
     step-fetch (Fetching S.High c) I =
-        subst (λ (o : PortState.Outcome). Polling a made m h (world g (o .state) (o .memory)))
+        subst (λ (o : Outcome Port). Polling a made m h (world g (o .state) (o .memory)))
         (sym (fetch-poll n p a goWord k c (I .phase) (I .fetch .0) (subst (λ (y : Memory). found n y (Read (slotAt n a Command 0 + 2)) ≡ Value 0) (sym (I .memory)) (zero-high Command))))
-        (kept-by (world g (PortState.withFetcher p (Fetching S.High c)) k) (PortState.withFetcher p NoFetch) refl refl refl I tt (I .text) (post-same (PortState.withFetcher p (Fetching S.High c)) (PortState.withFetcher p NoFetch) (I .text) (p .poster) refl (I .post)))
+        (kept-by (world g (PortState.withFetcher p (Fetching S.High c)) k) (PortState.withFetcher p NoFetch) refl refl refl I tt (I .text) (post-same (PortState.withFetcher p (Fetching S.High c)) (PortState.withFetcher p NoFetch) (I .text) (p .poster) refl refl (I .post)))
     step-fetch (Fetching S.Low c) I = absurd (I .fetch)
     step-fetch (Fetching S.Length c) I = absurd (I .fetch)
     step-fetch (Fetching S.Header c) I = absurd (I .fetch)
@@ -288,9 +292,9 @@ module _ (n : ℕ) (a : Area) (made : Made) (m : Memory) (zero-high : (r : Ring)
 
     step-post : (q : Poster) → Polling a made m h (world g (PortState.withPoster p q) k) → Polling a made m h (act n stepPost (world g (PortState.withPoster p q) k) .next)
     step-post NoPost I =
-        subst (λ (o : PortState.Outcome). Polling a made m h (world g (o .state) (o .memory))) (sym (post-none n p a goWord k (I .phase))) I
+        subst (λ (o : Outcome Port). Polling a made m h (world g (o .state) (o .memory))) (sym (post-none n p a goWord k (I .phase))) I
     step-post (Posting S.High c) I =
-        subst (λ (o : PortState.Outcome). Polling a made m h (world g (o .state) (o .memory)))
+        subst (λ (o : Outcome Port). Polling a made m h (world g (o .state) (o .memory)))
         (sym (post-poll n p a goWord k c (I .phase) (I .post .slot) (subst (λ (y : Memory). found n y (Read (slotAt n a Response 0 + 2)) ≡ Value 0) (sym (I .memory)) (zero-high Response))))
         (kept-by (world g (PortState.withPoster p (Posting S.High c)) k) (PortState.withPoster p NoPost) refl refl refl I (fetch-same (PortState.withPoster p (Posting S.High c)) (PortState.withPoster p NoPost) (p .fetcher) refl (I .fetch)) (I .text) tt)
     step-post (Posting S.Low c) I = absurd (I .post)
@@ -302,22 +306,22 @@ module _ (n : ℕ) (a : Area) (made : Made) (m : Memory) (zero-high : (r : Ring)
 
     begin-fetch : (f : Fetcher) → Polling a made m h (world g (PortState.withFetcher p f) k) → Polling a made m h (act n beginFetch (world g (PortState.withFetcher p f) k) .next)
     begin-fetch f I =
-        subst (λ (o : PortState.Next). Polling a made m h (world g (o .state) k)) (sym (begun-fetch p f a goWord (I .phase))) (go f I)
+        subst (λ (o : Next Port). Polling a made m h (world g (o .state) k)) (sym (begun-fetch p f a goWord (I .phase))) (go f I)
       where
-        go : (f : Fetcher) → Polling a made m h (world g (PortState.withFetcher p f) k) → Polling a made m h (world g (Rattle.port_state.specs.Fetch.beginBySide (PortState.withFetcher p f) f .state) k)
+        go : (f : Fetcher) → Polling a made m h (world g (PortState.withFetcher p f) k) → Polling a made m h (world g (cond (PortStep.isIdle f) (fetchBegins (PortState.withFetcher p f)) (denied (PortState.withFetcher p f) 2) .state) k)
         go NoFetch I =
             kept-by (world g (PortState.withFetcher p NoFetch) k)
-            (PortState.withFetcher (PortState.withIncoming p zeros) (Fetching S.High (PortState.startOf (p .counts .fetch) 0 false))) refl refl refl I
+            (PortState.withFetcher (PortState.withIncoming p zeros) (Fetching S.High (startOf (p .counts .fetch) 0 0))) refl refl refl I
             (ap (λ y. y .fetch) (I .counts), refl) (I .text)
-            (post-same (PortState.withFetcher p NoFetch) (PortState.withFetcher (PortState.withIncoming p zeros) (Fetching S.High (PortState.startOf (p .counts .fetch) 0 false))) (I .text) (p .poster) refl (I .post))
+            (post-same (PortState.withFetcher p NoFetch) (PortState.withFetcher (PortState.withIncoming p zeros) (Fetching S.High (startOf (p .counts .fetch) 0 0))) (I .text) (p .poster) refl refl (I .post))
         go (Fetching s c) I = I
         go (FetchTail s c) I = I
 
     begin-post : (q : Poster) (b : Bool) (t : List ℕ) → Bytes t → Polling a made m h (world g (PortState.withPoster p q) k) → Polling a made m h (act n (beginPost b t) (world g (PortState.withPoster p q) k) .next)
     begin-post q b t y I =
-        subst (λ (o : PortState.Next). Polling a made m h (world g (o .state) k)) (sym (begun-post p q b t a goWord (I .phase))) (go q I)
+        subst (λ (o : Next Port). Polling a made m h (world g (o .state) k)) (sym (begun-post p q b t a goWord (I .phase))) (go q I)
       where
-        fresh : Polling a made m h (world g (PortState.withPoster p NoPost) k) → (o : Bool) → leb (length t) 60 ≡ o → (b : Bool) → Polling a made m h (world g (postWith (PortState.withPoster p NoPost) b t .state) k)
+        fresh : Polling a made m h (world g (PortState.withPoster p NoPost) k) → (o : Bool) → leb (length t) 60 ≡ o → (b : Bool) → Polling a made m h (world g (postBegins (PortState.withPoster p NoPost) (record { answers = b }) t .state) k)
         fresh I false e b = rw e I
         fresh I true e true =
             let z : eqb (p .counts .unanswered) 0 ≡ true = ap (λ y. eqb (y .unanswered) 0) (I .counts) in
@@ -325,11 +329,11 @@ module _ (n : ℕ) (a : Area) (made : Made) (m : Memory) (zero-high : (r : Ring)
         fresh I true e false =
             rw e
             (kept-by (world g (PortState.withPoster p NoPost) k)
-            (PortState.withPoster (PortState.withOutgoing p (padded t)) (Posting S.High (PortState.startOf (p .counts .post) (length t) false))) refl refl refl I
-            (fetch-same (PortState.withPoster p NoPost) (PortState.withPoster (PortState.withOutgoing p (padded t)) (Posting S.High (PortState.startOf (p .counts .post) (length t) false))) (p .fetcher) refl (I .fetch)) t
+            (PortState.withPoster (PortState.withOutgoing p (padded t) (record { answers = false })) (Posting S.High (startOf (p .counts .post) 0 (length t)))) refl refl refl I
+            (fetch-same (PortState.withPoster p NoPost) (PortState.withPoster (PortState.withOutgoing p (padded t) (record { answers = false })) (Posting S.High (startOf (p .counts .post) 0 (length t)))) (p .fetcher) refl (I .fetch)) t
             record { slot = ap (λ y. y .post) (I .counts); size = refl; short = leb-true (length t) 60 e; bytes = y; text = refl; unsolicited = refl })
 
-        go : (q : Poster) → Polling a made m h (world g (PortState.withPoster p q) k) → Polling a made m h (world g (Rattle.port_state.specs.Post.postBeginBySide (PortState.withPoster p q) b t q .state) k)
+        go : (q : Poster) → Polling a made m h (world g (PortState.withPoster p q) k) → Polling a made m h (world g (cond (PortStep.isIdle q) (postBegins (PortState.withPoster p q) (record { answers = b }) t) (denied (PortState.withPoster p q) 2) .state) k)
         go NoPost I = fresh I (leb (length t) 60) refl b
         go (Posting s c) I = I
         go (PostTail s c) I = I
@@ -337,22 +341,25 @@ module _ (n : ℕ) (a : Area) (made : Made) (m : Memory) (zero-high : (r : Ring)
   poll : (e : Ev) → Proper e → (w : World) → Polling a made m h w → Polling a made m h (act n e w .next)
   poll (beginSend f t) y w I = host-by w (sendBegun (w .host) (record { flag = f }) t .state) (send-begun-off (w .host) (record { flag = f }) t (not-ready w I)) I
   poll stepSend y w I =
-      subst (λ (o : HostState.Outcome). Polling a made m h (world (o .state) (w .port) (o .memory))) (sym (send-off n (w .host) (w .memory) (not-ready w I)))
+      subst (λ (o : Outcome Host). Polling a made m h (world (o .state) (w .port) (o .memory))) (sym (send-off n (w .host) (w .memory) (not-ready w I)))
       (host-by w (HostState.withSender (w .host) NoSend) (ap (λ (z : Host). HostState.withSender z NoSend) (I .host) ∙ sym (I .host)) I)
   poll beginTake y w I = host-by w (takeBegun (w .host) .state) (take-begun-off (w .host) (not-ready w I)) I
   poll stepTake y w I =
-      subst (λ (o : HostState.Outcome). Polling a made m h (world (o .state) (w .port) (o .memory))) (sym (take-off n (w .host) (w .memory) (not-ready w I)))
+      subst (λ (o : Outcome Host). Polling a made m h (world (o .state) (w .port) (o .memory))) (sym (take-off n (w .host) (w .memory) (not-ready w I)))
       (host-by w (HostState.withTaker (w .host) NoTake) (ap (λ (z : Host). HostState.withTaker z NoTake) (I .host) ∙ sym (I .host)) I)
   poll beginFetch y w I = begin-fetch (w .host) (w .port) (w .memory) (w .port .fetcher) I
   poll stepFetch y w I = step-fetch (w .host) (w .port) (w .memory) (w .port .fetcher) I
   poll (beginPost b t) y w I = begin-post (w .host) (w .port) (w .memory) (w .port .poster) b t y I
   poll stepPost y w I = step-post (w .host) (w .port) (w .memory) (w .port .poster) I
   poll (clearMark r) y w I =
-      subst (λ (o : HostState.Outcome). Polling a made m h (world (o .state) (w .port) (o .memory))) (sym (clear-off n (w .host) r (w .memory) (shaken w I) ∙ clear-state (w .host) (left n (w .memory) (indicator n (w .host .area) r 0)) (found n (w .memory) (indicator n (w .host .area) r 0))))
-      (subst (λ (k : Memory). Polling a made m h (world (w .host) (w .port) k)) (sym (unmarked r w I)) I)
+      subst (λ (o : Outcome Host). Polling a made m h (world (o .state) (w .port) (o .memory))) (sym (clear-off n (w .host) r (w .memory) (shaken w I)))
+      (host-by (world (w .host) (w .port) (left n (w .memory) (indicator n (w .host .area) r 0)))
+      (clearFollows (w .host) (found n (w .memory) (indicator n (w .host .area) r 0)) .state)
+      (clear-state (w .host) (found n (w .memory) (indicator n (w .host .area) r 0)))
+      (subst (λ (k : Memory). Polling a made m h (world (w .host) (w .port) k)) (sym (unmarked r w I)) I))
   poll readSa y w I = I
   poll (writeSa v) y w I =
-      subst (λ (o : PortState.Outcome). Polling a made m h (world (w .host) (o .state) (o .memory))) (sym (write-off n (w .port) a goWord v (w .memory) (I .phase))) I
+      subst (λ (o : Outcome Port). Polling a made m h (world (w .host) (o .state) (o .memory))) (sym (write-off n (w .port) a goWord v (w .memory) (I .phase))) I
   poll (showSa v) y w I = host-by w (saSeen (w .host) v .state) (seen-off (w .host) v (shaken w I)) I
   poll timeIsUp y w I = host-by w (timeUp (w .host) .state) (late-off (w .host) (shaken w I)) I
 

@@ -7,6 +7,7 @@ use native.Mathlib.Omega.{arith}
 use native.Mathlib.Nat.{mod-add-mod}
 use lib.ListN.{length, getD, drop, length-drop}
 use lib.Seq.{getD-drop}
+use Rattle.base_side.specs.Step.{Outcome}
 use Rattle.base_words.specs.Words.{addressBits, goWord}
 use Rattle.base_texts.specs.Texts.{padded}
 use Rattle.base_memory.specs.Memory.{Memory, usable}
@@ -25,20 +26,18 @@ use Rattle.port_state.specs.Shake.{saOf}
 use Rattle.port_state.specs.declared.state.Made.{Made}
 use Rattle.port_state.specs.declared.state.Stage.the-variants as S
 use Rattle.port_state.specs.declared.state.Phase.the-variants.{Running}
-use Rattle.port_state.specs.declared.state.Fetcher.{Fetcher}
-use Rattle.port_state.specs.declared.state.Fetcher.the-variants.{NoFetch, Fetching, FetchTail}
-use Rattle.port_state.specs.declared.state.Poster.{Poster}
-use Rattle.port_state.specs.declared.state.Poster.the-variants.{NoPost, Posting, PostTail}
+use Rattle.port_state.specs.declared.state.Side.{Side as Fetcher, Side as Poster}
+use Rattle.port_state.specs.declared.state.Side.the-variants.{Idle as NoFetch, At as Fetching, Tail as FetchTail, Idle as NoPost, At as Posting, Tail as PostTail}
 use Rattle.port_state.specs.declared.state.Port.{Port}
 use Rattle.host_state.specs.State as HostState
 use Rattle.host_state.specs.Shake.{areaOf}
-use Rattle.host_state.specs.Setup.{readied, setUpBy}
+use Rattle.host_state.specs.Setup.{madeReady, setUpBy}
 use Rattle.host_state.specs.declared.state.Shake.the-variants.{Finished}
 use Rattle.host_state.specs.declared.state.Beginning.{Beginning}
-use Rattle.host_state.specs.declared.state.Cursor.{Cursor}
-use Rattle.host_state.specs.declared.state.Taker.{Taker}
-use Rattle.host_state.specs.declared.state.Taker.the-variants.{NoTake, Taking}
-use Rattle.host_state.specs.declared.state.TakeStage.the-variants as T
+use Rattle.base_side.specs.declared.Cursor.{Cursor}
+use Rattle.host_state.specs.declared.state.Side.{Side as Taker}
+use Rattle.host_state.specs.declared.state.Side.the-variants.{Idle as NoTake, At as Taking}
+use Rattle.host_state.specs.declared.state.Stage.the-variants as H
 use Rattle.host_state.specs.declared.state.Host.{Host}
 use Rattle.fact_meeting.specs.Meeting.{Pair, opened, Sight, seesAll, Came}
 use Rattle.fact_meeting.proofs.Ways.{every-way}
@@ -71,7 +70,7 @@ setup-fits n a pool m e = go (fits n a pool (usable n (length m))) refl
         absurd (omega arith)
 
 pub setup-is : (n : ℕ) (a : Area) (pool : ℕ) (m : Memory) → fits n a pool (usable n (length m)) ≡ true
-    → setUpBy n (HostState.fresh Finished a) pool m ≡ record { told = told done false; state = readied (HostState.fresh Finished a) pool; memory = setUp n a pool m }
+    → setUpBy n (HostState.fresh Finished a) pool m ≡ record { told = told done false; state = madeReady (HostState.fresh Finished a) pool; memory = setUp n a pool m }
 unfolding setUpBy
 setup-is n a pool m k = rw k
 
@@ -99,7 +98,7 @@ polls-post g v p x (Posting S.High c) e P =
       short = P .short;
       bytes = P .bytes;
       text = P .text;
-      waits = λ k. absurd (mathlib.Core.Bool.false≢true (sym (P .unsolicited) ∙ k));
+      owed-one = λ k. absurd (mathlib.Core.Bool.false≢true (sym (P .unsolicited) ∙ k));
       progress = tt;
     }
 polls-post g v p x (Posting S.Low c) e P = absurd P
@@ -111,12 +110,12 @@ polls-post g v p x (PostTail s c) e P = absurd P
 
 whole-shift : (k : ℕ) (t : Taker) → wholeFrom k t ≡ k + wholeFrom 0 t
 whole-shift k NoTake = omega arith
-whole-shift k (Taking T.Look c) = omega arith
-whole-shift k (Taking T.Length c) = omega arith
-whole-shift k (Taking T.Header c) = omega arith
-whole-shift k (Taking T.Text c) = omega arith
-whole-shift k (Taking T.Refill c) = omega arith
-whole-shift k (Taking T.Give c) = omega arith
+whole-shift k (Taking H.High c) = omega arith
+whole-shift k (Taking H.Length c) = omega arith
+whole-shift k (Taking H.Header c) = omega arith
+whole-shift k (Taking H.Text c) = omega arith
+whole-shift k (Taking H.Closing c) = omega arith
+whole-shift k (Taking H.Release c) = omega arith
 
 -- what is left of a history stands in the ring from the taker's slot on
 held : (g : Site) (r : Ring) (m : Memory) (i j : ℕ) (hist : List Entry) (h from : ℕ) → RingInv g (view g m) r i j hist h from → (k : ℕ) → from ≤ h + k → k < length (drop h hist)
@@ -126,8 +125,8 @@ held g r m i j hist h from R k f l =
     rw (e, getD-drop h hist k blank) (R .kept (h + k) f (omega (arith, l, length-drop h hist)))
 
 -- what the host has read of the oldest response, before it gives the slot back
-in-hand : (g : Site) (end : ℕ) (b : Bounds) (w : World) (y : Past) → Inv g end b w y → (c : Cursor) → w .host .taker ≡ Taking T.Give c
-    → (w .host .incoming ≡ padded (getD (plainOf w y .responses) 0 blank .text)) × (c .credits ≡ getD (plainOf w y .responses) 0 blank .credits)
+in-hand : (g : Site) (end : ℕ) (b : Bounds) (w : World) (y : Past) → Inv g end b w y → (c : Cursor) → w .host .taker ≡ Taking H.Release c
+    → (w .host .incoming ≡ padded (getD (plainOf w y .responses) 0 blank .text)) × (w .host .credits ≡ getD (plainOf w y .responses) 0 blank .credits)
 in-hand g end b w y I c e =
     let P = subst (λ (t : Taker). TakeInv g (w .host) y t) e (I .take) .progress in
     let q : getD (drop (y .taken) (y .posted)) 0 blank ≡ nextResponse y = getD-drop (y .taken) (y .posted) 0 blank ∙ ap (λ (k : ℕ). getD (y .posted) k blank) (omega arith) in
@@ -155,7 +154,7 @@ promised b pool end bs St some es w x W r =
           subst (λ (s : Play). (k : ℕ) → wholeFrom 0 (f .host .taker) ≤ k → k < length (s .plain .responses) → Letter (view g (f .memory)) Response ((f .host .counts .take + k) % slots (g .area) Response) (getD (s .plain .responses) k blank)) (sym q)
           (λ k v u. held g Response (f .memory) (f .port .counts .post) (f .host .counts .take) (y .posted) (y .taken) (wholeFrom (y .taken) (f .host .taker)) (W .inv .responses) k (omega (arith, whole-shift (y .taken) (f .host .taker))) u);
       response-in-hand =
-          subst (λ (s : Play). (c : Cursor) → f .host .taker ≡ Taking T.Give c → (f .host .incoming ≡ padded (getD (s .plain .responses) 0 blank .text)) × (c .credits ≡ getD (s .plain .responses) 0 blank .credits)) (sym q)
+          subst (λ (s : Play). (c : Cursor) → f .host .taker ≡ Taking H.Release c → (f .host .incoming ≡ padded (getD (s .plain .responses) 0 blank .text)) × (f .host .credits ≡ getD (s .plain .responses) 0 blank .credits)) (sym q)
           (in-hand g end bs f y (W .inv));
       quiet = sa-zero (f .port) (g .area) (W .inv .agreed .go) (W .inv .agreed .port-runs);
       calm = W .calm;
@@ -167,7 +166,7 @@ early-fetch-is p NoFetch P = tt
 early-fetch-is p (Fetching s c) P = tt
 early-fetch-is p (FetchTail s c) P = absurd P
 
-early-post-is : (p : Port) (t : List ℕ) (q : Poster) → PollPost p t q → EarlyPost (postJob t q)
+early-post-is : (p : Port) (t : List ℕ) (q : Poster) → PollPost p t q → EarlyPost (postJob t (p .asked .answers) q)
 early-post-is p t NoPost P = tt
 early-post-is p t (Posting S.High c) P = subst (λ (o : Bool). EarlyPost (waiting (posts o t))) (sym (P .unsolicited)) tt
 early-post-is p t (Posting S.Low c) P = absurd P
@@ -254,17 +253,17 @@ module _ (b : Beginning) (x : Pair) (vs : List Sight) (ps : List Ev) (pool : ℕ
         response-slots = refl;
       }
 
-  is-started : started b x vs ps pool ≡ world (readied (HostState.fresh Finished (areaOf b)) pool) (early b x vs ps .port) (setUp addressBits (areaOf b) pool before)
+  is-started : started b x vs ps pool ≡ world (madeReady (HostState.fresh Finished (areaOf b)) pool) (early b x vs ps .port) (setUp addressBits (areaOf b) pool before)
   unfolding before end
   is-started =
-      ap (λ (o : HostState.Outcome). world (o .state) (early b x vs ps .port) (o .memory))
+      ap (λ (o : Outcome Host). world (o .state) (early b x vs ps .port) (o .memory))
       (ap (λ (y : Host). setUpBy addressBits y pool (early b x vs ps .memory)) (polls .host) ∙ setup-is addressBits (areaOf b) pool (early b x vs ps .memory) fit)
 
   first : Past
   first = record { sent = []; fetched = 0; posted = []; taken = 0; sending = []; posting = polls .text; holding = [] }
 
   now : World
-  now = world (readied (HostState.fresh Finished (areaOf b)) pool) (early b x vs ps .port) (setUp addressBits (areaOf b) pool before)
+  now = world (madeReady (HostState.fresh Finished (areaOf b)) pool) (early b x vs ps .port) (setUp addressBits (areaOf b) pool before)
 
   shown : Picture addressBits (areaOf b) pool end F rings-in pool-in (slotCount (areaOf b)) (setUp addressBits (areaOf b) pool before)
   unfolding end
@@ -307,16 +306,16 @@ module _ (b : Beginning) (x : Pair) (vs : List Sight) (ps : List Ev) (pool : ℕ
   at-start =
       record {
         fetcher = fetchJob [] (early b x vs ps .port .fetcher);
-        poster = postJob (polls .text) (early b x vs ps .port .poster);
+        poster = postJob (polls .text) (early b x vs ps .port .asked .answers) (early b x vs ps .port .poster);
         early-fetch = early-fetch-is (early b x vs ps .port) (early b x vs ps .port .fetcher) (polls .fetch);
         early-post = early-post-is (early b x vs ps .port) (polls .text) (early b x vs ps .port .poster) (polls .post);
         nothing-early = λ e. (
           ap (λ (qs : List Ev). fetchJob [] (early b x vs qs .port .fetcher)) e ∙ ap (λ (y : Pair). fetchJob [] (y .port .fetcher)) (came .runs),
-          ap (λ (qs : List Ev). postJob (polls .text) (early b x vs qs .port .poster)) e ∙ ap (λ (y : Pair). postJob (polls .text) (y .port .poster)) (came .runs),
+          ap (λ (qs : List Ev). postJob (polls .text) (early b x vs qs .port .asked .answers) (early b x vs qs .port .poster)) e ∙ ap (λ (y : Pair). postJob (polls .text) (y .port .asked .answers) (y .port .poster)) (came .runs),
         );
         promise = λ es y.
-            subst (λ (w : World). Promise (act addressBits) (siteOf b pool) (boundsOf b x) es w (game (start (boundsOf b x)) idle idle (fetchJob [] (early b x vs ps .port .fetcher)) (postJob (polls .text) (early b x vs ps .port .poster)))) (sym is-started)
-            (subst (λ (s : Plain). Promise (act addressBits) (siteOf b pool) (boundsOf b x) es now (game s idle idle (fetchJob [] (early b x vs ps .port .fetcher)) (postJob (polls .text) (early b x vs ps .port .poster)))) plain-is
+            subst (λ (w : World). Promise (act addressBits) (siteOf b pool) (boundsOf b x) es w (game (start (boundsOf b x)) idle idle (fetchJob [] (early b x vs ps .port .fetcher)) (postJob (polls .text) (early b x vs ps .port .asked .answers) (early b x vs ps .port .poster)))) (sym is-started)
+            (subst (λ (s : Plain). Promise (act addressBits) (siteOf b pool) (boundsOf b x) es now (game s idle idle (fetchJob [] (early b x vs ps .port .fetcher)) (postJob (polls .text) (early b x vs ps .port .asked .answers) (early b x vs ps .port .poster)))) plain-is
             (promised b pool end (boundsOf b x) setting (St .some) es now first (whole (siteOf b pool) end (boundsOf b x) setting es y now first inv 0 0 (none-fetched (early b x vs ps .port) (early b x vs ps .port .fetcher) (polls .fetch)) (none-posted (early b x vs ps .port) (polls .text) (early b x vs ps .port .poster) (polls .post)))
             (subst (λ (s : Plain). Ran (boundsOf b x) nothing s) (sym plain-is) begin)));
       }

@@ -1,12 +1,15 @@
 -- The calls that begin an operation, clear an indicator, or concern SA. Assumes nothing.
-use Prim.Native.Nat.{ℕ, _≤_}
+use Prim.Native.Nat.{ℕ, _≤_, _<_}
 use mathlib.Core.Path.{_≡_, refl, sym, ap, subst, _∙_}
 use mathlib.Core.Bool.{Bool, true, false, cond, _&&_}
 use mathlib.Core.List.{List}
 use native.Mathlib.Omega.{arith}
 use lib.Dec.{leb, eqb}
+use lib.Pow.{pow-mono}
 use lib.ListN.{length}
 use borrow.Author.Tests.{leb-true, eqb-false}
+use Rattle.base_side.specs.Place.{startOf}
+use Rattle.base_side.specs.Step.{with-memory, denied}
 use Rattle.base_words.specs.Fields.{of, isSet, er, fatalCode}
 use Rattle.base_texts.specs.Texts.{zeros, padded}
 use Rattle.base_memory.specs.Memory.{Memory, withWord}
@@ -14,40 +17,41 @@ use Rattle.base_memory.specs.OneWord.{found}
 use Rattle.base_memory.specs.declared.Word.the-variants.{Value}
 use Rattle.base_memory.specs.declared.Touch.the-variants.{Write}
 use Rattle.base_answers.specs.Told.{told, refusal, done}
-use Rattle.base_area.specs.Layout.{indicator}
+use Rattle.base_area.specs.Layout.{slots, envelopeAt, indicator}
 use Rattle.base_area.specs.declared.Area.{Area}
 use Rattle.base_area.specs.declared.Ring.{Ring}
+use Rattle.base_area.specs.declared.Ring.the-variants.{Command, Response}
 use Rattle.fact_layout.specs.Facts.{AreaFacts}
 use Rattle.fact_plain.specs.Plain.{Bounds}
 use Rattle.port_state.specs.State as PortState
 use Rattle.port_state.specs.Shake.{saOf, saWritten, ignored}
-use Rattle.port_state.specs.Fetch.{fetchBegun}
-use Rattle.port_state.specs.Post.{postBegun, postWith}
+use Rattle.port_state.specs.Fetch.{fetchBegins, fetchBegun}
+use Rattle.port_state.specs.Side as PortStep
+use Rattle.port_state.specs.Side.{portBegun}
+use Rattle.port_state.specs.Post.{postBegun, postBegins}
 use Rattle.port_state.specs.declared.state.Stage.the-variants as S
 use Rattle.port_state.specs.declared.state.Phase.the-variants.{Running}
-use Rattle.port_state.specs.declared.state.Fetcher.{Fetcher}
-use Rattle.port_state.specs.declared.state.Fetcher.the-variants.{NoFetch, Fetching, FetchTail}
-use Rattle.port_state.specs.declared.state.Poster.{Poster}
-use Rattle.port_state.specs.declared.state.Poster.the-variants.{NoPost, Posting, PostTail}
+use Rattle.port_state.specs.declared.state.Side.{Side as Fetcher, Side as Poster}
+use Rattle.port_state.specs.declared.state.Side.the-variants.{Idle as NoFetch, At as Fetching, Tail as FetchTail, Idle as NoPost, At as Posting, Tail as PostTail}
 use Rattle.port_state.specs.declared.state.Port.{Port}
 use Rattle.host_state.specs.State as HostState
 use Rattle.host_state.specs.State.{isReady}
-use Rattle.host_state.specs.Shake.{portFatal, none, saSeen, timeUp}
+use Rattle.host_state.specs.Shake.{turn, portFatal, none, saSeen, timeUp}
 use Rattle.host_state.specs.Setup.{indicatorCleared}
-use Rattle.host_state.specs.Send.{sendBegun, sendWith}
-use Rattle.host_state.specs.Take.{takeBegun}
-use Rattle.host_state.specs.declared.state.SendStage.the-variants as H
-use Rattle.host_state.specs.declared.state.TakeStage.the-variants as T
+use Rattle.host_state.specs.Send.{sendBegun, sendBegins}
+use Rattle.host_state.specs.Side as HostStep
+use Rattle.host_state.specs.Side.{hostBegun}
+use Rattle.host_state.specs.Take.{takeBegins, takeBegun}
+use Rattle.host_state.specs.declared.state.Stage.the-variants as H
 use Rattle.host_state.specs.declared.state.Shake.the-variants.{Finished}
-use Rattle.host_state.specs.declared.state.Sender.{Sender}
-use Rattle.host_state.specs.declared.state.Sender.the-variants.{NoSend, Sending}
-use Rattle.host_state.specs.declared.state.Taker.{Taker}
-use Rattle.host_state.specs.declared.state.Taker.the-variants.{NoTake, Taking}
+use Rattle.host_state.specs.declared.state.Side.{Side as Sender, Side as Taker}
+use Rattle.host_state.specs.declared.state.Side.the-variants.{Idle as NoSend, At as Sending, Idle as NoTake, At as Taking}
 use Rattle.host_state.specs.declared.state.Host.{Host}
 use Rattle.fact_traffic.specs.Places.{markWord, Site, addr, view}
 use Rattle.fact_traffic.specs.World.{World, world, Ev, beginSend, beginTake, beginFetch, beginPost, clearMark, readSa, writeSa, showSa, timeIsUp, Bytes, Did, act, byHost, byHostOnly, byPort, byPortOnly, byTurn}
 use Rattle.fact_traffic.specs.Invariant.{Past, Inv, Setting}
 use Rattle.fact_traffic.proofs.Place.{writes}
+use Rattle.fact_traffic.proofs.RingLaws.{slot-lt}
 use Rattle.fact_traffic.proofs.Frames.{send-frame, fetch-frame, take-frame, post-frame}
 use Rattle.fact_traffic.specs.Traffic.{calmly}
 use Rattle.fact_traffic.specs.Watch.{watch, momentOf, fetchCount, postCount}
@@ -98,11 +102,15 @@ module _ (g : Site) (end : ℕ) (b : Bounds) (S′ : Setting g end b) (h : Host)
   unfolding isReady
   host-ready h′ e f = rw (e, f)
 
+  -- an envelope of the pool starts where 32 bits say
+  near : (r : Ring) (i : ℕ) → i < slots (g .area) r → h .area ≡ g .area → h .pool ≡ g .pool → HostState.envelopeOf h r i ≡ envelopeAt (g .area) (g .pool) r i
+  near r i l a q = rw (a, q) (omega (arith, F .envelope-inside r i l, S′ .end-low, pow-mono (S′ .narrow)))
+
   ---------------------------------------------------------------- beginning a send
 
   send-begun : (snd : Sender) (f : Bool) (t : List ℕ) → isReady h ≡ true
-      → sendBegun (HostState.withSender h snd) (record { flag = f }) t ≡ Rattle.host_state.specs.Send.sendBeginBySide (HostState.withSender h snd) (record { flag = f }) t snd
-  unfolding sendBegun isReady
+      → sendBegun (HostState.withSender h snd) (record { flag = f }) t ≡ cond (HostStep.isIdle snd) (sendBegins (HostState.withSender h snd) (record { flag = f }) t) (denied (HostState.withSender h snd) 2)
+  unfolding sendBegun isReady hostBegun
   send-begun snd f t r = rw r
 
   pub begin-send : (snd : Sender) (f : Bool) (t : List ℕ) → Bytes t → Inv g end b (world (HostState.withSender h snd) p m) x
@@ -120,10 +128,10 @@ module _ (g : Site) (end : ℕ) (b : Bounds) (S′ : Setting g end b) (h : Host)
       x′ = record { sent = x .sent; fetched = x .fetched; posted = x .posted; taken = x .taken; sending = t; posting = x .posting; holding = x .holding }
 
       h′ : Host
-      h′ = HostState.withSender (HostState.withOutgoing h (padded t)) (Sending H.Look (HostState.startOf (h .counts .send) (length t) f))
+      h′ = HostState.withSender (HostState.withOutgoing h (padded t) (record { flag = f })) (Sending H.High (startOf (h .counts .send) (HostState.envelopeOf h Command (h .counts .send)) (length t)))
 
-      by : (o : Bool) → leb (length t) 60 ≡ o → Sim g end b (beginSend f t) w x (byHostOnly w (sendWith (HostState.withSender h NoSend) (record { flag = f }) t))
-      by false e = rw e (still (beginSend f t) w I (byHostOnly w (record { told = refusal 3; state = HostState.withSender h NoSend })) refl (rw e) refl (λ k j. refl) (λ k. refl) (λ k. refl))
+      by : (o : Bool) → leb (length t) 60 ≡ o → Sim g end b (beginSend f t) w x (byHostOnly w (sendBegins (HostState.withSender h NoSend) (record { flag = f }) t))
+      by false e = rw e (still (beginSend f t) w I (byHostOnly w (denied (HostState.withSender h NoSend) 3)) refl (rw e) refl (λ k j. refl) (λ k. refl) (λ k. refl))
       by true e =
           rw e
           record {
@@ -135,10 +143,10 @@ module _ (g : Site) (end : ℕ) (b : Bounds) (S′ : Setting g end b) (h : Host)
                   size = I .size;
                   commands = I .commands;
                   responses = I .responses;
-                  send = record { slot = refl; size = refl; short = leb-true (length t) 60 e; bytes = y; text = refl; progress = tt };
-                  take = take-frame g (HostState.withSender h NoSend) h′ x x′ (h .taker) refl refl refl (omega arith) (λ k. refl) (I .take);
+                  send = record { slot = refl; envelope = near Command (h .counts .send) (rw (I .commands .giver) (slot-lt g Command (length (x .sent)))) (I .agreed .host-area) (I .agreed .host-pool); size = refl; short = leb-true (length t) 60 e; bytes = y; text = refl; progress = tt };
+                  take = take-frame g (HostState.withSender h NoSend) h′ x x′ (h .taker) refl refl refl refl (omega arith) (λ k. refl) (I .take);
                   fetch = fetch-frame g p p x x′ (p .fetcher) refl refl refl refl (omega arith) (λ k. refl) (I .fetch);
-                  post = post-frame g (view g m) (view g m) p p x x′ (p .poster) refl refl refl (omega arith) refl refl (omega arith) (λ r o l. refl) (I .post);
+                  post = post-frame g (view g m) (view g m) p p x x′ (p .poster) refl refl refl refl (omega arith) refl refl (omega arith) (λ r o l. refl) (I .post);
                   sum = I .sum;
                 };
             same = rw e;
@@ -151,8 +159,8 @@ module _ (g : Site) (end : ℕ) (b : Bounds) (S′ : Setting g end b) (h : Host)
 
   ---------------------------------------------------------------- beginning a take
 
-  take-begun : (tk : Taker) → isReady h ≡ true → takeBegun (HostState.withTaker h tk) ≡ Rattle.host_state.specs.Take.takeBeginBySide (HostState.withTaker h tk) tk
-  unfolding takeBegun isReady
+  take-begun : (tk : Taker) → isReady h ≡ true → takeBegun (HostState.withTaker h tk) ≡ cond (HostStep.isIdle tk) (takeBegins (HostState.withTaker h tk)) (denied (HostState.withTaker h tk) 2)
+  unfolding takeBegun isReady hostBegun
   take-begun tk r = rw r
 
   pub begin-take : (tk : Taker) → Inv g end b (world (HostState.withTaker h tk) p m) x
@@ -172,8 +180,8 @@ module _ (g : Site) (end : ℕ) (b : Bounds) (S′ : Setting g end b) (h : Host)
               commands = I .commands;
               responses = I .responses;
               send = send-frame g (view g m) (view g m) (HostState.withTaker h NoTake)
-                  (HostState.withTaker (HostState.withIncoming h zeros) (Taking T.Look (HostState.startOf (h .counts .take) 0 true))) x x (h .sender) refl refl (omega arith) refl refl (omega arith) (λ o l. refl) (I .send);
-              take = record { slot = refl; progress = refl };
+                  (HostState.withTaker (HostState.withIncoming h zeros 0) (Taking H.High (startOf (h .counts .take) (HostState.envelopeOf h Response (h .counts .take)) 0))) x x (h .sender) refl refl (omega arith) refl refl (omega arith) (λ o l. refl) (I .send);
+              take = record { slot = refl; envelope = near Response (h .counts .take) (rw (I .responses .taker) (slot-lt g Response (x .taken))) (I .agreed .host-area) (I .agreed .host-pool); progress = refl };
               fetch = I .fetch;
               post = I .post;
               sum = I .sum;
@@ -188,8 +196,8 @@ module _ (g : Site) (end : ℕ) (b : Bounds) (S′ : Setting g end b) (h : Host)
 
   ---------------------------------------------------------------- beginning a fetch
 
-  fetch-begun : (f : Fetcher) (a : Area) (go : ℕ) → p .phase ≡ Running a go → fetchBegun (PortState.withFetcher p f) ≡ Rattle.port_state.specs.Fetch.beginBySide (PortState.withFetcher p f) f
-  unfolding fetchBegun
+  fetch-begun : (f : Fetcher) (a : Area) (go : ℕ) → p .phase ≡ Running a go → fetchBegun (PortState.withFetcher p f) ≡ cond (PortStep.isIdle f) (fetchBegins (PortState.withFetcher p f)) (denied (PortState.withFetcher p f) 2)
+  unfolding fetchBegun portBegun
   fetch-begun f a go r = rw r
 
   pub begin-fetch : (f : Fetcher) → Inv g end b (world h (PortState.withFetcher p f) m) x
@@ -215,7 +223,7 @@ module _ (g : Site) (end : ℕ) (b : Bounds) (S′ : Setting g end b) (h : Host)
               take = I .take;
               fetch = record { slot = refl; progress = refl };
               post = post-frame g (view g m) (view g m) (PortState.withFetcher p NoFetch)
-                  (PortState.withFetcher (PortState.withIncoming p zeros) (Fetching S.High (PortState.startOf (p .counts .fetch) 0 false))) x x (p .poster) refl refl refl (omega arith) refl refl (omega arith) (λ r o l. refl) (I .post);
+                  (PortState.withFetcher (PortState.withIncoming p zeros) (Fetching S.High (startOf (p .counts .fetch) 0 0))) x x (p .poster) refl refl refl refl (omega arith) refl refl (omega arith) (λ r o l. refl) (I .post);
               sum = I .sum;
             };
         same = refl;
@@ -228,8 +236,9 @@ module _ (g : Site) (end : ℕ) (b : Bounds) (S′ : Setting g end b) (h : Host)
 
   ---------------------------------------------------------------- beginning a post
 
-  post-begun : (q : Poster) (a : Bool) (t : List ℕ) (ar : Area) (go : ℕ) → p .phase ≡ Running ar go → postBegun (PortState.withPoster p q) a t ≡ Rattle.port_state.specs.Post.postBeginBySide (PortState.withPoster p q) a t q
-  unfolding postBegun
+  post-begun : (q : Poster) (a : Bool) (t : List ℕ) (ar : Area) (go : ℕ) → p .phase ≡ Running ar go → postBegun (PortState.withPoster p q) (record { answers = a }) t
+      ≡ cond (PortStep.isIdle q) (postBegins (PortState.withPoster p q) (record { answers = a }) t) (denied (PortState.withPoster p q) 2)
+  unfolding postBegun portBegun
   post-begun q a t ar go r = rw r
 
   pub begin-post : (q : Poster) (a : Bool) (t : List ℕ) → Bytes t → Inv g end b (world h (PortState.withPoster p q) m) x
@@ -250,15 +259,15 @@ module _ (g : Site) (end : ℕ) (b : Bounds) (S′ : Setting g end b) (h : Host)
       x′ = record { sent = x .sent; fetched = x .fetched; posted = x .posted; taken = x .taken; sending = x .sending; posting = t; holding = x .holding }
 
       p′ : Port
-      p′ = PortState.withPoster (PortState.withOutgoing p (padded t)) (Posting S.High (PortState.startOf (p .counts .post) (length t) a))
+      p′ = PortState.withPoster (PortState.withOutgoing p (padded t) (record { answers = a })) (Posting S.High (startOf (p .counts .post) 0 (length t)))
 
       open-one : (a : Bool) → (a && eqb (p .counts .unanswered) 0) ≡ false → a ≡ true → 1 ≤ p .counts .unanswered
       open-one true e k = omega (arith, eqb-false (p .counts .unanswered) 0 e)
       open-one false e k = absurd (mathlib.Core.Bool.false≢true k)
 
-      by : (o : Bool) → leb (length t) 60 ≡ o → (u : Bool) → (a && eqb (p .counts .unanswered) 0) ≡ u → Sim g end b (beginPost a t) w x (byPortOnly w (postWith (PortState.withPoster p NoPost) a t))
-      by false e u k = rw e (still (beginPost a t) w I (byPortOnly w (record { told = refusal 3; state = PortState.withPoster p NoPost })) refl (rw e) refl (λ k j. refl) (λ k. refl) (λ k. refl))
-      by true e true k = rw (e, k) (still (beginPost a t) w I (byPortOnly w (record { told = refusal 4; state = PortState.withPoster p NoPost })) refl (rw (e, k)) refl (λ k j. refl) (λ k. refl) (λ k. refl))
+      by : (o : Bool) → leb (length t) 60 ≡ o → (u : Bool) → (a && eqb (p .counts .unanswered) 0) ≡ u → Sim g end b (beginPost a t) w x (byPortOnly w (postBegins (PortState.withPoster p NoPost) (record { answers = a }) t))
+      by false e u k = rw e (still (beginPost a t) w I (byPortOnly w (denied (PortState.withPoster p NoPost) 3)) refl (rw e) refl (λ k j. refl) (λ k. refl) (λ k. refl))
+      by true e true k = rw (e, k) (still (beginPost a t) w I (byPortOnly w (denied (PortState.withPoster p NoPost) 4)) refl (rw (e, k)) refl (λ k j. refl) (λ k. refl) (λ k. refl))
       by true e false k =
           rw (e, k)
           record {
@@ -271,9 +280,9 @@ module _ (g : Site) (end : ℕ) (b : Bounds) (S′ : Setting g end b) (h : Host)
                   commands = I .commands;
                   responses = I .responses;
                   send = send-frame g (view g m) (view g m) h h x x′ (h .sender) refl refl (omega arith) refl refl (omega arith) (λ o l. refl) (I .send);
-                  take = take-frame g h h x x′ (h .taker) refl refl refl (omega arith) (λ z. refl) (I .take);
+                  take = take-frame g h h x x′ (h .taker) refl refl refl refl (omega arith) (λ z. refl) (I .take);
                   fetch = fetch-frame g (PortState.withPoster p NoPost) p′ x x′ (p .fetcher) refl refl refl refl (omega arith) (λ z. refl) (I .fetch);
-                  post = record { slot = refl; size = refl; short = leb-true (length t) 60 e; bytes = y; text = refl; waits = open-one a k; progress = tt };
+                  post = record { slot = refl; size = refl; short = leb-true (length t) 60 e; bytes = y; text = refl; owed-one = open-one a k; progress = tt };
                   sum = I .sum;
                 };
             same = rw (e, k);
@@ -311,15 +320,15 @@ module _ (g : Site) (end : ℕ) (b : Bounds) (S′ : Setting g end b) (h : Host)
   unfolding saOf
   sa-zero a go e = rw e
 
-  sa-ignored : (a : Area) (go v : ℕ) → p .phase ≡ Running a go → saWritten (g .bits) p v m ≡ PortState.with-memory (ignored p) m
+  sa-ignored : (a : Area) (go v : ℕ) → p .phase ≡ Running a go → saWritten (g .bits) p v m ≡ with-memory (ignored p) m
   unfolding saWritten
   sa-ignored a go v e = ap (λ y. Rattle.port_state.specs.Shake.heard (g .bits) p v m y) e
 
-  shown-is : (v : ℕ) → h .shake ≡ Finished → saSeen h v ≡ record { asks = cond (isSet er v) (portFatal (of fatalCode v)) none; state = h }
+  shown-is : (v : ℕ) → h .shake ≡ Finished → saSeen h v ≡ turn (cond (isSet er v) (portFatal (of fatalCode v)) none) h
   unfolding saSeen
   shown-is v e = ap (λ y. Rattle.host_state.specs.Shake.sawBy h v y) e
 
-  late-is : h .shake ≡ Finished → timeUp h ≡ record { asks = none; state = h }
+  late-is : h .shake ≡ Finished → timeUp h ≡ turn none h
   unfolding timeUp
   late-is e = ap (λ y. Rattle.host_state.specs.Shake.lateBy h y) e
 

@@ -28,17 +28,20 @@ use Rattle.fact_layout.proofs.Rings.{lt-or-ge, same-or-not, every-layout}
 use Rattle.fact_plain.specs.Plain.{Entry, Bounds}
 use Rattle.fact_plain.specs.Log.{fetches}
 use Rattle.port_state.specs.State as PortState
-use Rattle.port_state.specs.State.{with-memory, withFetcher, withIncoming, withCounts, withHigh, withEnvelope, withSize, withAt}
-use Rattle.port_state.specs.Tail.{tailStart, tailTouch, tailAfter}
-use Rattle.port_state.specs.Fetch.{fetchTouch, refuseFetch, fetchHigh, fetchLow, fetchOn, fetchHeader, fetchText, fetched, fetchRelease, fetchSeen, fetchAfter, fetchTailed, fetchStep}
-use Rattle.port_state.specs.declared.state.Cursor.{Cursor}
+use Rattle.base_side.specs.Step.{with-memory, onward}
+use Rattle.port_state.specs.State.{withFetcher, withIncoming, withCounts}
+use Rattle.base_side.specs.Place.{withHigh, withEnvelope, withSize, withAt}
+use Rattle.port_state.specs.Tail.{tailStart, tailAsks, testFollows, markFollows, tailFollows}
+use Rattle.port_state.specs.Fetch.{fetchAsks, fetchHigh, fetchLow, fetchHeader, fetchText, fetched, fetchRelease, fetchFinds, fetchFollows, fetchTailed, fetchStep}
+use Rattle.port_state.specs.Side.{refuse, textOrRelease, portStep}
+use Rattle.base_side.specs.declared.Cursor.{Cursor}
 use Rattle.port_state.specs.declared.state.Stage.{Stage}
 use Rattle.port_state.specs.declared.state.Stage.the-variants as S
 use Rattle.port_state.specs.declared.state.TailStage.{TailStage}
 use Rattle.port_state.specs.declared.state.TailStage.the-variants as E
 use Rattle.port_state.specs.declared.state.Phase.the-variants.{Running}
-use Rattle.port_state.specs.declared.state.Fetcher.{Fetcher}
-use Rattle.port_state.specs.declared.state.Fetcher.the-variants.{NoFetch, Fetching, FetchTail}
+use Rattle.port_state.specs.declared.state.Side.{Side as Fetcher}
+use Rattle.port_state.specs.declared.state.Side.the-variants.{Idle as NoFetch, At as Fetching, Tail as FetchTail}
 use Rattle.port_state.specs.declared.state.Port.{Port}
 use Rattle.host_state.specs.declared.state.Host.{Host}
 use Rattle.fact_traffic.specs.Places.{slotWord, envWord, markWord, Site, addr, view}
@@ -57,45 +60,45 @@ use Rattle.fact_traffic.proofs.Sim.{Sim, stepsTo, later, now, untold, n
 use Rattle.fact_traffic.proofs.WordLaws.{high-owner, high-upper, high-lt, address-is, header-type, header-connection}
 
 -- a step of a running port whose touch finds a word
-fetch-at : (n : ℕ) (p : Port) (a : Area) (go : ℕ) (m : Memory) (s : Stage) (c : Cursor) (t : Touch) (v : ℕ) → p .phase ≡ Running a go → fetchTouch n a s c ≡ t → found n m t ≡ Value v
-    → fetchStep n (withFetcher p (Fetching s c)) m ≡ with-memory (fetchSeen n (withFetcher p (Fetching s c)) a (usable n (length m)) s c v) (left n m t)
-unfolding fetchStep fetchAfter
+fetch-at : (n : ℕ) (p : Port) (a : Area) (go : ℕ) (m : Memory) (s : Stage) (c : Cursor) (t : Touch) (v : ℕ) → p .phase ≡ Running a go → fetchAsks n a s c ≡ t → found n m t ≡ Value v
+    → fetchStep n (withFetcher p (Fetching s c)) m ≡ with-memory (fetchFinds n (withFetcher p (Fetching s c)) a (usable n (length m)) s c v) (left n m t)
+unfolding fetchStep fetchFollows portStep
 fetch-at n p a go m s c t v r e f = rw (r, e, f)
 
-tail-at : (n : ℕ) (p : Port) (a : Area) (go : ℕ) (m : Memory) (s : TailStage) (c : Cursor) (t : Touch) (v : ℕ) → p .phase ≡ Running a go → tailTouch n a Command s c ≡ t → found n m t ≡ Value v
-    → fetchStep n (withFetcher p (FetchTail s c)) m ≡ with-memory (fetchTailed (withFetcher p (FetchTail s c)) c (tailAfter a s (Value v))) (left n m t)
-unfolding fetchStep
+tail-at : (n : ℕ) (p : Port) (a : Area) (go : ℕ) (m : Memory) (s : TailStage) (c : Cursor) (t : Touch) (v : ℕ) → p .phase ≡ Running a go → tailAsks n a Command s c ≡ t → found n m t ≡ Value v
+    → fetchStep n (withFetcher p (FetchTail s c)) m ≡ with-memory (fetchTailed (withFetcher p (FetchTail s c)) c (tailFollows a s (Value v))) (left n m t)
+unfolding fetchStep portStep
 tail-at n p a go m s c t v r e f = rw (r, e, f)
 
-fetch-idle : (n : ℕ) (p : Port) (a : Area) (go : ℕ) (m : Memory) → p .phase ≡ Running a go → fetchStep n (withFetcher p NoFetch) m ≡ with-memory (refuseFetch (withFetcher p NoFetch) 12) m
-unfolding fetchStep
+fetch-idle : (n : ℕ) (p : Port) (a : Area) (go : ℕ) (m : Memory) → p .phase ≡ Running a go → fetchStep n (withFetcher p NoFetch) m ≡ with-memory (refuse (withFetcher p NoFetch) Command 12) m
+unfolding fetchStep portStep
 fetch-idle n p a go m r = rw r
 
-on-text : (c : Cursor) (k : ℕ) → k < wordsOf (c .size) → fetchOn c k ≡ Fetching S.Text (withAt c k)
-unfolding fetchOn
+on-text : (c : Cursor) (k : ℕ) → k < wordsOf (c .size) → textOrRelease c k ≡ Fetching S.Text (withAt c k)
+unfolding textOrRelease
 on-text c k l = rw (lt-ltb k (wordsOf (c .size)) l)
 
-on-release : (c : Cursor) (k : ℕ) → wordsOf (c .size) ≤ k → fetchOn c k ≡ Fetching S.Release c
-unfolding fetchOn
+on-release : (c : Cursor) (k : ℕ) → wordsOf (c .size) ≤ k → textOrRelease c k ≡ Fetching S.Release c
+unfolding textOrRelease
 on-release c k l = rw (le-ltb k (wordsOf (c .size)) l)
 
-high-7 : (p : Port) (m : Memory) (c : Cursor) (v : ℕ) → isSet owner v ≡ false → with-memory (fetchHigh (withFetcher p (Fetching S.High c)) c v) m ≡ with-memory (refuseFetch p 7) m
+high-7 : (p : Port) (m : Memory) (c : Cursor) (v : ℕ) → isSet owner v ≡ false → with-memory (fetchHigh (withFetcher p (Fetching S.High c)) c v) m ≡ with-memory (refuse p Command 7) m
 unfolding fetchHigh
 high-7 p m c v e = rw e
 
 high-on : (p : Port) (m : Memory) (c : Cursor) (v : ℕ) → isSet owner v ≡ true
-    → with-memory (fetchHigh (withFetcher p (Fetching S.High c)) c v) m ≡ with-memory (PortState.onward (withFetcher p (Fetching S.Low (withHigh c v)))) m
+    → with-memory (fetchHigh (withFetcher p (Fetching S.High c)) c v) m ≡ with-memory (onward (withFetcher p (Fetching S.Low (withHigh c v)))) m
 unfolding fetchHigh
 high-on p m c v e = rw e
 
 low-on : (n : ℕ) (p : Port) (m : Memory) (end a e : ℕ) (c : Cursor) (v : ℕ) → addressOf n v (c .high) ≡ a → 4 ≤ a → a ≤ end → a - 4 ≡ e
-    → with-memory (fetchLow n (withFetcher p (Fetching S.Low c)) end c v) m ≡ with-memory (PortState.onward (withFetcher p (Fetching S.Length (withEnvelope c e)))) m
+    → with-memory (fetchLow n (withFetcher p (Fetching S.Low c)) end c v) m ≡ with-memory (onward (withFetcher p (Fetching S.Length (withEnvelope c e)))) m
 unfolding fetchLow
 low-on n p m end a e c v q l u d = rw (q, le-leb 4 a l, le-leb a end u, d)
 
 header-on : (p : Port) (m : Memory) (end : ℕ) (c : Cursor) (v : ℕ) → Sound ≡ faultOf (of messageType v) (of connection v) (c .size)
     → c .envelope + 4 + 2 * wordsOf (c .size) ≤ end → p .counts .owed + p .counts .unanswered < p .made .limit
-    → with-memory (fetchHeader (withFetcher p (Fetching S.Header c)) end c v) m ≡ with-memory (PortState.onward (withFetcher p (fetchOn c 0))) m
+    → with-memory (fetchHeader (withFetcher p (Fetching S.Header c)) end c v) m ≡ with-memory (onward (withFetcher p (textOrRelease c 0))) m
 unfolding fetchHeader
 header-on p m end c v e l u = rw (← e, le-leb (c .envelope + 4 + 2 * wordsOf (c .size)) end l, lt-ltb (p .counts .owed + p .counts .unanswered) (p .made .limit) u)
 
@@ -103,29 +106,29 @@ module _ (g : Site) (end : ℕ) (b : Bounds) (S′ : Setting g end b) (h : Host)
   F : AreaFacts (g .bits) (g .area) (g .pool) end
   F = S′ .facts
 
-  touch-high : (c : Cursor) → c .slot ≡ p .counts .fetch → fetchTouch (g .bits) (g .area) S.High c ≡ Read (addr g (slotWord Command (p .counts .fetch) 2))
-  unfolding fetchTouch
+  touch-high : (c : Cursor) → c .slot ≡ p .counts .fetch → fetchAsks (g .bits) (g .area) S.High c ≡ Read (addr g (slotWord Command (p .counts .fetch) 2))
+  unfolding fetchAsks
   touch-high c s = rw s
 
-  touch-low : (c : Cursor) → c .slot ≡ p .counts .fetch → fetchTouch (g .bits) (g .area) S.Low c ≡ Read (addr g (slotWord Command (p .counts .fetch) 0))
-  unfolding fetchTouch
+  touch-low : (c : Cursor) → c .slot ≡ p .counts .fetch → fetchAsks (g .bits) (g .area) S.Low c ≡ Read (addr g (slotWord Command (p .counts .fetch) 0))
+  unfolding fetchAsks
   touch-low c s = rw s (ap Read (omega arith))
 
-  touch-len : (c : Cursor) → c .slot ≡ p .counts .fetch → c .envelope ≡ envelopeAt (g .area) (g .pool) Command (c .slot) → fetchTouch (g .bits) (g .area) S.Length c ≡ Read (addr g (envWord Command (p .counts .fetch) 0))
-  unfolding fetchTouch
+  touch-len : (c : Cursor) → c .slot ≡ p .counts .fetch → c .envelope ≡ envelopeAt (g .area) (g .pool) Command (c .slot) → fetchAsks (g .bits) (g .area) S.Length c ≡ Read (addr g (envWord Command (p .counts .fetch) 0))
+  unfolding fetchAsks
   touch-len c s e = rw (e, s) (ap Read (omega arith))
 
-  touch-head : (c : Cursor) → c .slot ≡ p .counts .fetch → c .envelope ≡ envelopeAt (g .area) (g .pool) Command (c .slot) → fetchTouch (g .bits) (g .area) S.Header c ≡ Read (addr g (envWord Command (p .counts .fetch) 2))
-  unfolding fetchTouch
+  touch-head : (c : Cursor) → c .slot ≡ p .counts .fetch → c .envelope ≡ envelopeAt (g .area) (g .pool) Command (c .slot) → fetchAsks (g .bits) (g .area) S.Header c ≡ Read (addr g (envWord Command (p .counts .fetch) 2))
+  unfolding fetchAsks
   touch-head c s e = rw (e, s)
 
   touch-text : (c : Cursor) → c .slot ≡ p .counts .fetch → c .envelope ≡ envelopeAt (g .area) (g .pool) Command (c .slot)
-      → fetchTouch (g .bits) (g .area) S.Text c ≡ Read (addr g (envWord Command (p .counts .fetch) (4 + 2 * c .at)))
-  unfolding fetchTouch
+      → fetchAsks (g .bits) (g .area) S.Text c ≡ Read (addr g (envWord Command (p .counts .fetch) (4 + 2 * c .at)))
+  unfolding fetchAsks
   touch-text c s e = rw (e, s) (ap Read (omega arith))
 
-  touch-release : (c : Cursor) → c .slot ≡ p .counts .fetch → fetchTouch (g .bits) (g .area) S.Release c ≡ Write (addr g (slotWord Command (p .counts .fetch) 2)) (highWord false true (c .high))
-  unfolding fetchTouch
+  touch-release : (c : Cursor) → c .slot ≡ p .counts .fetch → fetchAsks (g .bits) (g .area) S.Release c ≡ Write (addr g (slotWord Command (p .counts .fetch) 2)) (highWord false true (c .high))
+  unfolding fetchAsks
   touch-release c s = rw s
 
   module _ (f : Fetcher) (I : Inv g end b (world h (withFetcher p f) m) x) where
@@ -143,7 +146,7 @@ module _ (g : Site) (end : ℕ) (b : Bounds) (S′ : Setting g end b) (h : Host)
           send = I .send;
           take = I .take;
           fetch = new;
-          post = post-frame g (view g m) (view g m) (withFetcher p f) (withFetcher (withIncoming p room) f′) x x (p .poster) refl refl refl (omega arith) refl refl (omega arith) (λ r o l. refl) (I .post);
+          post = post-frame g (view g m) (view g m) (withFetcher p f) (withFetcher (withIncoming p room) f′) x x (p .poster) refl refl refl refl (omega arith) refl refl (omega arith) (λ r o l. refl) (I .post);
           sum = I .sum;
         }
 
@@ -265,13 +268,13 @@ module _ (g : Site) (end : ℕ) (b : Bounds) (S′ : Setting g end b) (h : Host)
   on-sim : (s : Stage) (c : Cursor) (room : List ℕ) (k : ℕ) → (I : Inv g end b (world h (withFetcher p (Fetching s c)) m) x)
       → Found g Command (c .slot) (c .high) (x .sent) (x .fetched) → Got room (nextCommand x .text) k → c .envelope ≡ envelopeAt (g .area) (g .pool) Command (c .slot)
       → c .size ≡ length (nextCommand x .text) → length (nextCommand x .text) ≤ 60 → k ≤ wordsOf (length (nextCommand x .text)) → stepsTo s c ≡ 3 + k
-      → fetchStep (g .bits) (withFetcher p (Fetching s c)) m ≡ with-memory (PortState.onward (withFetcher (withIncoming p room) (fetchOn c k))) m
+      → fetchStep (g .bits) (withFetcher p (Fetching s c)) m ≡ with-memory (onward (withFetcher (withIncoming p room) (textOrRelease c k))) m
       → Sim g end b stepFetch (world h (withFetcher p (Fetching s c)) m) x (byPort (world h (withFetcher p (Fetching s c)) m) (fetchStep (g .bits) (withFetcher p (Fetching s c)) m))
   on-sim s c room k I fo gt en si sh le st e =
       elim (lt-or-ge k (wordsOf (c .size))) [
         | inl more ↦
             sim-of g end b stepFetch (world h (withFetcher p (Fetching s c)) m) x (byPort (world h (withFetcher p (Fetching s c)) m))
-            (e ∙ ap (λ (y : Fetcher). with-memory (PortState.onward (withFetcher (withIncoming p room) y)) m) (on-text c k more))
+            (e ∙ ap (λ (y : Fetcher). with-memory (onward (withFetcher (withIncoming p room) y)) m) (on-text c k more))
             record {
               moment = later;
               past = x;
@@ -285,7 +288,7 @@ module _ (g : Site) (end : ℕ) (b : Bounds) (S′ : Setting g end b) (h : Host)
             }
         | inr none ↦
             sim-of g end b stepFetch (world h (withFetcher p (Fetching s c)) m) x (byPort (world h (withFetcher p (Fetching s c)) m))
-            (e ∙ ap (λ (y : Fetcher). with-memory (PortState.onward (withFetcher (withIncoming p room) y)) m) (on-release c k none))
+            (e ∙ ap (λ (y : Fetcher). with-memory (onward (withFetcher (withIncoming p room) y)) m) (on-release c k none))
             record {
               moment = later;
               past = x;
@@ -319,8 +322,8 @@ module _ (g : Site) (end : ℕ) (b : Bounds) (S′ : Setting g end b) (h : Host)
       (sound (of messageType v) (of connection v) (c .size) (ap (of messageType) (L .head) ∙ header-type (nextCommand x .credits)) (ap (of connection) (L .head) ∙ header-connection (nextCommand x .credits)) (rw si (L .short)))
       (rw (P .1 .1 .0, I .fetch .slot, si) (omega (arith, F .envelope-inside Command i at, I .size, L .short))) (credit (Fetching S.Header c) I (P .0 .some)))
 
-  text-is : (c : Cursor) (v k : ℕ) → with-memory (fetchSeen (g .bits) (withFetcher p (Fetching S.Text c)) (g .area) k S.Text c v) m
-      ≡ with-memory (PortState.onward (withFetcher (withIncoming p (withText (p .incoming) (c .size) (c .at) v)) (fetchOn c (c .at + 1)))) m
+  text-is : (c : Cursor) (v k : ℕ) → with-memory (fetchFinds (g .bits) (withFetcher p (Fetching S.Text c)) (g .area) k S.Text c v) m
+      ≡ with-memory (onward (withFetcher (withIncoming p (withText (p .incoming) (c .size) (c .at) v)) (textOrRelease c (c .at + 1)))) m
   unfolding fetchText
   text-is c v k = refl
 
@@ -366,7 +369,7 @@ module _ (g : Site) (end : ℕ) (b : Bounds) (S′ : Setting g end b) (h : Host)
 
   release-goes : (c : Cursor) (k : Memory) → c .slot ≡ p .counts .fetch → p .counts .unanswered + 1 ≤ 255 → isSet flagged (c .high) ≡ true
       → with-memory (fetchRelease (withFetcher p (Fetching S.Release c)) (g .area) c) k
-      ≡ with-memory (PortState.onward (withFetcher counted (FetchTail (tailStart (g .area) Command) c))) k
+      ≡ with-memory (onward (withFetcher counted (FetchTail (tailStart (g .area) Command) c))) k
   unfolding fetchRelease fetched nextOf
   release-goes c k s l e = rw (e, s, least (p .counts .unanswered + 1) l)
     where
@@ -428,9 +431,9 @@ module _ (g : Site) (end : ℕ) (b : Bounds) (S′ : Setting g end b) (h : Host)
           responses = quiet-slot g end F m (I .size) Response (p .counts .post) (h .counts .take) (x .posted) (x .taken) _ (I .responses) Command i 2 v (λ s. rings) (at, omega arith);
           send = send-frame g (view g m) (view g (withWord (g .bits) m (addr g (slotWord Command i 2)) v)) h h x one-less (h .sender) refl refl (omega arith) refl refl (omega arith)
               (λ o l. kept g end F m (I .size) (slotWord Command i 2) (envWord Command (h .counts .send) o) v (slot-env g end F Command i 2 Command (h .counts .send) o (at, omega arith) (send-in, l))) (I .send);
-          take = Rattle.fact_traffic.proofs.Frames.take-frame g h h x one-less (h .taker) refl refl refl (omega arith) (λ k. refl) (I .take);
+          take = Rattle.fact_traffic.proofs.Frames.take-frame g h h x one-less (h .taker) refl refl refl refl (omega arith) (λ k. refl) (I .take);
           fetch = new;
-          post = post-frame g (view g m) (view g (withWord (g .bits) m (addr g (slotWord Command i 2)) v)) (withFetcher p (Fetching S.Release c)) (withFetcher counted f′) x one-less (p .poster) refl refl refl (omega arith) refl refl (omega arith)
+          post = post-frame g (view g m) (view g (withWord (g .bits) m (addr g (slotWord Command i 2)) v)) (withFetcher p (Fetching S.Release c)) (withFetcher counted f′) x one-less (p .poster) refl refl refl refl (omega arith) refl refl (omega arith)
               (λ r o l. kept g end F m (I .size) (slotWord Command i 2) (envWord Response (p .counts .post) o) v (slot-env g end F Command i 2 Response (p .counts .post) o (at, omega arith) (post-in, l)))
               (I .post);
           sum = omega (arith, I .sum, ap (λ (y : List Entry). length y) rest);
@@ -472,29 +475,29 @@ module _ (g : Site) (end : ℕ) (b : Bounds) (S′ : Setting g end b) (h : Host)
             }
 
   -- the tail: the previous slot's test, and the indicator
-  touch-test : (c : Cursor) → tailTouch (g .bits) (g .area) Command E.Test c ≡ Read (addr g (slotWord Command (beforeOf (g .area) Command (c .slot)) 2))
-  unfolding tailTouch
+  touch-test : (c : Cursor) → tailAsks (g .bits) (g .area) Command E.Test c ≡ Read (addr g (slotWord Command (beforeOf (g .area) Command (c .slot)) 2))
+  unfolding tailAsks
   touch-test c = refl
 
-  touch-mark : (c : Cursor) → tailTouch (g .bits) (g .area) Command E.Mark c ≡ Write (addr g (markWord Command)) 1
-  unfolding tailTouch
+  touch-mark : (c : Cursor) → tailAsks (g .bits) (g .area) Command E.Mark c ≡ Write (addr g (markWord Command)) 1
+  unfolding tailAsks
   touch-mark c = F .indicator-at Command 1
 
   test-goes : (c : Cursor) (k : Memory) (v : ℕ) → isSet owner v ≡ true
-      → with-memory (fetchTailed (withFetcher p (FetchTail E.Test c)) c (tailAfter (g .area) E.Test (Value v))) k ≡ with-memory (PortState.onward (withFetcher p (FetchTail E.Mark c))) k
-  unfolding fetchTailed tailAfter
+      → with-memory (fetchTailed (withFetcher p (FetchTail E.Test c)) c (tailFollows (g .area) E.Test (Value v))) k ≡ with-memory (onward (withFetcher p (FetchTail E.Mark c))) k
+  unfolding fetchTailed testFollows markFollows
   test-goes c k v e = rw e
 
   test-closes : (c : Cursor) (k : Memory) (v : ℕ) → isSet owner v ≡ false
-      → with-memory (fetchTailed (withFetcher p (FetchTail E.Test c)) c (tailAfter (g .area) E.Test (Value v))) k
+      → with-memory (fetchTailed (withFetcher p (FetchTail E.Test c)) c (tailFollows (g .area) E.Test (Value v))) k
       ≡ with-memory (record { told = carried (c .size) (p .incoming) false; state = withFetcher p NoFetch }) k
-  unfolding fetchTailed tailAfter
+  unfolding fetchTailed testFollows markFollows
   test-closes c k v e = rw e
 
   mark-closes : (c : Cursor) (k : Memory) (v : ℕ)
-      → with-memory (fetchTailed (withFetcher p (FetchTail E.Mark c)) c (tailAfter (g .area) E.Mark (Value v))) k
+      → with-memory (fetchTailed (withFetcher p (FetchTail E.Mark c)) c (tailFollows (g .area) E.Mark (Value v))) k
       ≡ with-memory (record { told = carried (c .size) (p .incoming) (hasVector (g .area .first)); state = withFetcher p NoFetch }) k
-  unfolding fetchTailed tailAfter
+  unfolding fetchTailed testFollows markFollows
   mark-closes c k v = refl
 
   test : (c : Cursor) → Inv g end b (world h (withFetcher p (FetchTail E.Test c)) m) x
@@ -507,7 +510,7 @@ module _ (g : Site) (end : ℕ) (b : Bounds) (S′ : Setting g end b) (h : Host)
       word : ℕ
       word = view g m (slotWord Command (beforeOf (g .area) Command (c .slot)) 2)
 
-      step : fetchStep (g .bits) (withFetcher p (FetchTail E.Test c)) m ≡ with-memory (fetchTailed (withFetcher p (FetchTail E.Test c)) c (tailAfter (g .area) E.Test (Value word))) m
+      step : fetchStep (g .bits) (withFetcher p (FetchTail E.Test c)) m ≡ with-memory (fetchTailed (withFetcher p (FetchTail E.Test c)) c (tailFollows (g .area) E.Test (Value word))) m
       step =
           tail-at (g .bits) p (g .area) (I .agreed .go) m E.Test c (Read (addr g (slotWord Command (beforeOf (g .area) Command (c .slot)) 2))) word (I .agreed .port-runs)
           (touch-test c) (reads g end F m (I .size) (slotWord Command (beforeOf (g .area) Command (c .slot)) 2) (every-layout .ring (g .area) Command .before-in (c .slot) (I .fetch .slot), omega arith))

@@ -8,25 +8,20 @@ use Rattle.base_words.specs.Fields.{of}
 use Rattle.base_texts.specs.Texts.{wordsOf, padded}
 use Rattle.base_memory.specs.Memory.{Memory, usable, withWord}
 use Rattle.base_memory.proofs.Laws.{withWord-length}
-use Rattle.base_area.specs.Layout.{slots}
+use Rattle.base_area.specs.Layout.{slots, envelopeAt}
 use Rattle.base_area.specs.declared.Ring.{Ring}
 use Rattle.base_area.specs.declared.Ring.the-variants.{Command, Response}
 use Rattle.fact_layout.specs.Facts.{Apart, slots-apart, AreaFacts}
 use Rattle.fact_plain.specs.Plain.{Entry}
 use Rattle.port_state.specs.Post.{creditsOf}
-use Rattle.port_state.specs.declared.state.Cursor as PortCursor
+use Rattle.base_side.specs.declared.Cursor.{Cursor}
 use Rattle.port_state.specs.declared.state.Stage.the-variants as S
-use Rattle.port_state.specs.declared.state.Fetcher.{Fetcher}
-use Rattle.port_state.specs.declared.state.Fetcher.the-variants.{NoFetch, Fetching, FetchTail}
-use Rattle.port_state.specs.declared.state.Poster.{Poster}
-use Rattle.port_state.specs.declared.state.Poster.the-variants.{NoPost, Posting, PostTail}
+use Rattle.port_state.specs.declared.state.Side.{Side as Fetcher, Side as Poster}
+use Rattle.port_state.specs.declared.state.Side.the-variants.{Idle as NoFetch, At as Fetching, Tail as FetchTail, Idle as NoPost, At as Posting, Tail as PostTail}
 use Rattle.port_state.specs.declared.state.Port.{Port}
-use Rattle.host_state.specs.declared.state.SendStage.the-variants as H
-use Rattle.host_state.specs.declared.state.TakeStage.the-variants as T
-use Rattle.host_state.specs.declared.state.Sender.{Sender}
-use Rattle.host_state.specs.declared.state.Sender.the-variants.{NoSend, Sending}
-use Rattle.host_state.specs.declared.state.Taker.{Taker}
-use Rattle.host_state.specs.declared.state.Taker.the-variants.{NoTake, Taking}
+use Rattle.host_state.specs.declared.state.Stage.the-variants as H
+use Rattle.host_state.specs.declared.state.Side.{Side as Sender, Side as Taker}
+use Rattle.host_state.specs.declared.state.Side.the-variants.{Idle as NoSend, At as Sending, Idle as NoTake, At as Taking}
 use Rattle.host_state.specs.declared.state.Host.{Host}
 use Rattle.fact_traffic.specs.Places.{Place, slotWord, envWord, markWord, Site, addr, Valid, view}
 use Rattle.fact_traffic.specs.Rings.{blank, RingInv}
@@ -96,6 +91,7 @@ send-frame g v v′ h h′ x x′ NoSend i t a e q u f I = tt
 send-frame g v v′ h h′ x x′ (Sending s c) i t a e q u f I =
     record {
       slot = I .slot ∙ i;
+      envelope = I .envelope ∙ ap (envelopeAt (g .area) (g .pool) Command) i;
       size = I .size ∙ ap length e;
       short = rw (← e) (I .short);
       bytes = rw (← e) (I .bytes);
@@ -113,12 +109,12 @@ send-frame g v v′ h h′ x x′ (Sending s c) i t a e q u f I =
     wr k l W = rw (← e) (written-kept v v′ Command (c .slot) (x .sending) 0 k (I .short) l here W)
 
     go : (s : _) → Rattle.fact_traffic.specs.Invariant.SendProgress g v h x s c → Rattle.fact_traffic.specs.Invariant.SendProgress g v′ h′ x′ s c
-    go H.Look P = tt
+    go H.High P = tt
     go H.Length P = may P
     go H.Header P = (may (P .0), here 0 (omega arith) ∙ P .1 ∙ ap length e)
     go H.Text P = (may (P .0), (wr (c .at) (omega (arith, P .1 .1)) (P .1 .0), rw (← e) (P .1 .1)))
-    go H.Low P = (may (P .0), subst (λ (k : ℕ). Written v′ Command (c .slot) (x′ .sending) 0 k) (ap (λ (t : List ℕ). wordsOf (length t)) e) (wr (wordsOf (length (x .sending))) (omega arith) (P .1)))
-    go H.Give P = (may (P .0), subst (λ (k : ℕ). Written v′ Command (c .slot) (x′ .sending) 0 k) (ap (λ (t : List ℕ). wordsOf (length t)) e) (wr (wordsOf (length (x .sending))) (omega arith) (P .1)))
+    go H.Closing P = (may (P .0), subst (λ (k : ℕ). Written v′ Command (c .slot) (x′ .sending) 0 k) (ap (λ (t : List ℕ). wordsOf (length t)) e) (wr (wordsOf (length (x .sending))) (omega arith) (P .1)))
+    go H.Release P = (may (P .0), subst (λ (k : ℕ). Written v′ Command (c .slot) (x′ .sending) 0 k) (ap (λ (t : List ℕ). wordsOf (length t)) e) (wr (wordsOf (length (x .sending))) (omega arith) (P .1)))
 
 -- the fetch side while others step: its index and text stay, commands may be given
 pub fetch-frame : (g : Site) (p p′ : Port) (x x′ : Past) (f : Fetcher)
@@ -146,11 +142,12 @@ fetch-frame g p p′ x x′ (Fetching s c) i t e q l n I = record { slot = I .sl
 
 -- the take side while others step: its index and text stay, responses may be given
 pub take-frame : (g : Site) (h h′ : Host) (x x′ : Past) (f : Taker)
-    → h .counts .take ≡ h′ .counts .take → h .incoming ≡ h′ .incoming → x .taken ≡ x′ .taken
+    → h .counts .take ≡ h′ .counts .take → h .incoming ≡ h′ .incoming → h .credits ≡ h′ .credits → x .taken ≡ x′ .taken
     → length (x .posted) ≤ length (x′ .posted) → (x .taken < length (x .posted) → nextResponse x ≡ nextResponse x′)
     → TakeInv g h x f → TakeInv g h′ x′ f
-take-frame g h h′ x x′ NoTake i t q l n I = tt
-take-frame g h h′ x x′ (Taking s c) i t q l n I = record { slot = I .slot ∙ i; progress = go s (I .progress) }
+take-frame g h h′ x x′ NoTake i t d q l n I = tt
+take-frame g h h′ x x′ (Taking s c) i t d q l n I =
+    record { slot = I .slot ∙ i; envelope = I .envelope ∙ ap (envelopeAt (g .area) (g .pool) Response) i; progress = go s (I .progress) }
   where
     found : Found g Response (c .slot) (c .high) (x .posted) (x .taken) → Found g Response (c .slot) (c .high) (x′ .posted) (x′ .taken)
     found P = record { some = rw (← q) (omega (arith, P .some, l)); upper = P .upper }
@@ -159,57 +156,57 @@ take-frame g h h′ x x′ (Taking s c) i t q l n I = record { slot = I .slot �
     size k = ap (λ (d : Entry). length (d .text)) k
 
     all : Found g Response (c .slot) (c .high) (x .posted) (x .taken)
-        × ((h .incoming ≡ padded (nextResponse x .text)) × ((c .size ≡ length (nextResponse x .text)) × (c .credits ≡ nextResponse x .credits)))
+        × ((h .incoming ≡ padded (nextResponse x .text)) × ((c .size ≡ length (nextResponse x .text)) × (h .credits ≡ nextResponse x .credits)))
         → Found g Response (c .slot) (c .high) (x′ .posted) (x′ .taken)
-        × ((h′ .incoming ≡ padded (nextResponse x′ .text)) × ((c .size ≡ length (nextResponse x′ .text)) × (c .credits ≡ nextResponse x′ .credits)))
+        × ((h′ .incoming ≡ padded (nextResponse x′ .text)) × ((c .size ≡ length (nextResponse x′ .text)) × (h′ .credits ≡ nextResponse x′ .credits)))
     all P =
         let k = n (P .0 .some) in
-        (found (P .0), (sym t ∙ P .1 .0 ∙ ap (λ (d : Entry). padded (d .text)) k, (P .1 .1 .0 ∙ size k, P .1 .1 .1 ∙ ap (λ (d : Entry). d .credits) k)))
+        (found (P .0), (sym t ∙ P .1 .0 ∙ ap (λ (d : Entry). padded (d .text)) k, (P .1 .1 .0 ∙ size k, sym d ∙ P .1 .1 .1 ∙ ap (λ (y : Entry). y .credits) k)))
 
     go : (s : _) → Rattle.fact_traffic.specs.Invariant.TakeProgress g h x s c → Rattle.fact_traffic.specs.Invariant.TakeProgress g h′ x′ s c
-    go T.Look P = sym t ∙ P
-    go T.Length P = (found (P .0), sym t ∙ P .1)
-    go T.Header P = (found (P .0), (sym t ∙ P .1 .0, P .1 .1 ∙ size (n (P .0 .some))))
-    go T.Text P =
+    go H.High P = sym t ∙ P
+    go H.Length P = (found (P .0), sym t ∙ P .1)
+    go H.Header P = (found (P .0), (sym t ∙ P .1 .0, P .1 .1 ∙ size (n (P .0 .some))))
+    go H.Text P =
         let k = n (P .0 .some) in
-        (found (P .0), (rw (← t, ← k) (P .1 .0), (P .1 .1 .0 ∙ size k, (P .1 .1 .1 .0 ∙ ap (λ (d : Entry). d .credits) k, rw (← k) (P .1 .1 .1 .1)))))
-    go T.Refill P = all P
-    go T.Give P = all P
+        (found (P .0), (rw (← t, ← k) (P .1 .0), (P .1 .1 .0 ∙ size k, (sym d ∙ P .1 .1 .1 .0 ∙ ap (λ (y : Entry). y .credits) k, rw (← k) (P .1 .1 .1 .1)))))
+    go H.Closing P = all P
+    go H.Release P = all P
 
-credits-kept : (p p′ : Port) (c : PortCursor.Cursor) → p .counts .owed ≡ p′ .counts .owed → creditsOf p c ≡ creditsOf p′ c
+credits-kept : (p p′ : Port) → p .asked .answers ≡ p′ .asked .answers → p .counts .owed ≡ p′ .counts .owed → creditsOf p ≡ creditsOf p′
 unfolding creditsOf
-credits-kept p p′ c d = rw d
+credits-kept p p′ y d = rw (y, d)
 
 -- the post side while others step: its index, text and credits stay, room may grow, commands may be opened
 pub post-frame : (g : Site) (v v′ : Place → ℕ) (p p′ : Port) (x x′ : Past) (f : Poster)
-    → p .counts .post ≡ p′ .counts .post → p .outgoing ≡ p′ .outgoing → p .counts .owed ≡ p′ .counts .owed → p .counts .unanswered ≤ p′ .counts .unanswered
+    → p .counts .post ≡ p′ .counts .post → p .outgoing ≡ p′ .outgoing → p .asked .answers ≡ p′ .asked .answers → p .counts .owed ≡ p′ .counts .owed → p .counts .unanswered ≤ p′ .counts .unanswered
     → x .posting ≡ x′ .posting → x .posted ≡ x′ .posted → x .taken ≤ x′ .taken
     → (PostRoom g x → (o : ℕ) → o + 2 ≤ 64 → v′ (envWord Response (p .counts .post) o) ≡ v (envWord Response (p .counts .post) o))
     → PostInv g v p x f → PostInv g v′ p′ x′ f
-post-frame g v v′ p p′ x x′ NoPost i t d a e q u f I = tt
-post-frame g v v′ p p′ x x′ (PostTail s c) i t d a e q u f I = I
-post-frame g v v′ p p′ x x′ (Posting s c) i t d a e q u f I =
+post-frame g v v′ p p′ x x′ NoPost i t y d a e q u f I = tt
+post-frame g v v′ p p′ x x′ (PostTail s c) i t y d a e q u f I = I
+post-frame g v v′ p p′ x x′ (Posting s c) i t y d a e q u f I =
     record {
       slot = I .slot ∙ i;
       size = I .size ∙ ap length e;
       short = rw (← e) (I .short);
       bytes = rw (← e) (I .bytes);
       text = sym t ∙ I .text ∙ ap padded e;
-      waits = λ k. omega (arith, I .waits k, a);
+      owed-one = λ k. omega (arith, I .owed-one (y ∙ k), a);
       progress = go s (I .progress);
     }
   where
     room : PostRoom g x → PostRoom g x′
     room M = rw (← q) (omega (arith, M, u))
 
-    credits : creditsOf p c ≡ creditsOf p′ c
-    credits = credits-kept p p′ c d
+    credits : creditsOf p ≡ creditsOf p′
+    credits = credits-kept p p′ y d
 
     here : PostRoom g x → (o : ℕ) → o + 2 ≤ 64 → v′ (envWord Response (c .slot) o) ≡ v (envWord Response (c .slot) o)
     here M o l = rw (I .slot) (f M o l)
 
-    wr : PostRoom g x → (k : ℕ) → k ≤ wordsOf (length (x .posting)) → Written v Response (c .slot) (x .posting) (creditsOf p c) k → Written v′ Response (c .slot) (x′ .posting) (creditsOf p′ c) k
-    wr M k l W = rw (← e, ← credits) (written-kept v v′ Response (c .slot) (x .posting) (creditsOf p c) k (I .short) l (here M) W)
+    wr : PostRoom g x → (k : ℕ) → k ≤ wordsOf (length (x .posting)) → Written v Response (c .slot) (x .posting) (creditsOf p) k → Written v′ Response (c .slot) (x′ .posting) (creditsOf p′) k
+    wr M k l W = rw (← e, ← credits) (written-kept v v′ Response (c .slot) (x .posting) (creditsOf p) k (I .short) l (here M) W)
 
     go : (s : _) → Rattle.fact_traffic.specs.Invariant.PostProgress g v p x s c → Rattle.fact_traffic.specs.Invariant.PostProgress g v′ p′ x′ s c
     go S.High P = tt
@@ -218,7 +215,7 @@ post-frame g v v′ p p′ x x′ (Posting s c) i t d a e q u f I =
     go S.Header P = (room (P .0), (P .1 .0, (P .1 .1 .0, here (P .0) 0 (omega arith) ∙ P .1 .1 .1 ∙ ap length e)))
     go S.Text P = (room (P .0), (P .1 .0, (P .1 .1 .0, (wr (P .0) (c .at) (omega (arith, P .1 .1 .1 .1)) (P .1 .1 .1 .0), rw (← e) (P .1 .1 .1 .1)))))
     go S.Release P =
-        (room (P .0), (P .1 .0, subst (λ (k : ℕ). Written v′ Response (c .slot) (x′ .posting) (creditsOf p′ c) k) (ap (λ (t : List ℕ). wordsOf (length t)) e) (wr (P .0) (wordsOf (length (x .posting))) (omega arith) (P .1 .1))))
+        (room (P .0), (P .1 .0, subst (λ (k : ℕ). Written v′ Response (c .slot) (x′ .posting) (creditsOf p′) k) (ap (λ (t : List ℕ). wordsOf (length t)) e) (wr (P .0) (wordsOf (length (x .posting))) (omega arith) (P .1 .1))))
 
 -- a command or response that was given stays where it is when another is given
 pub next-kept : (hist : List Entry) (e : Entry) (k : ℕ) → k < length hist → getD hist k blank ≡ getD (hist ++ (e ∷ [])) k blank

@@ -5,39 +5,39 @@ use mathlib.Core.Bool.{Bool, true, false}
 use native.Mathlib.Omega.{arith}
 use lib.ListN.{length}
 use borrow.Author.Tests.{le-leb, lt-leb}
+use Rattle.base_side.specs.Step.{Outcome}
 use Rattle.base_texts.specs.Texts.{zeros, byteAt, withByte, wordOf, withText, padded}
-use Rattle.base_memory.specs.Memory.{usable, lies, inside, wordAt, withWord, cleared}
+use Rattle.base_memory.specs.Memory.{usable, lies, inside, wordAt, withWord, cleared, Memory}
 use Rattle.base_rules.specs.Rules.{faultOf, carriedOf, leftOf}
-use Rattle.base_area.specs.Layout.{slots, base, slotAt, nextOf, beforeOf, alone, indicator, envelopeAt, hasVector, stepInterrupt, areaLies, areaCleared}
+use Rattle.base_area.specs.Layout.{slots, base, slotAt, nextOf, beforeOf, alone, indicator, envelopeAt, hasVector, stepInterrupt, areaLies, areaCleared, slotCount}
 use Rattle.base_area.specs.Setup.{fits, slotSet, slotsSet, setUp}
 use Rattle.port_state.specs.Shake.{created, saOf, firstHeard, saWritten}
-use Rattle.port_state.specs.Tail.{tailStart, tailTouch, tailAfter}
-use Rattle.port_state.specs.Fetch.{fetchTouch, fetchHigh, fetchLow, fetchOn, fetchHeader, fetchText, fetched, fetchRelease, fetchAfter, fetchTailed, fetchStep, fetchBegun}
-use Rattle.port_state.specs.Post.{creditsOf, postTouch, postHigh, postLow, postOn, posted, postRelease, postAfter, postTailed, postStep, postBegun}
+use Rattle.port_state.specs.Tail.{tailStart, tailAsks, testFollows, markFollows, tailFollows}
+use Rattle.port_state.specs.Fetch.{fetchAsks, fetchHigh, fetchLow, fetchHeader, fetchText, fetched, fetchRelease, fetchFollows, fetchTailed, fetchStep, fetchBegun}
+use Rattle.port_state.specs.Side.{textOrRelease, portStep, portBegun}
+use Rattle.port_state.specs.Post.{creditsOf, postAsks, postHigh, postLow, posted, postRelease, postFollows, postTailed, postStep, postBegun}
 use Rattle.host_state.specs.State.{isReady}
-use Rattle.host_state.specs.Shake.{accepts, begun, expecting, saSeen}
+use Rattle.host_state.specs.Shake.{accepts, begun, expecting, saSeen, areaOf}
 use Rattle.host_state.specs.Setup.{setUpBy}
-use Rattle.host_state.specs.Send.{sendTouch, sendLook, sendOn, sent, sendAfter, sendStep, sendBegun}
-use Rattle.host_state.specs.Take.{takeTouch, takeLook, takeOn, takeHeader, takeText, taken, takeClosed, takeAfter, takeStep, takeBegun}
-use Rattle.fact_meeting.specs.Meeting.{opened, exchange, exchanges}
-use Rattle.fact_meeting.specs.Meeting.{Pair}
+use Rattle.host_state.specs.Send.{sendAsks, sendHigh, sent, sendFollows, sendStep, sendBegun}
+use Rattle.host_state.specs.Side.{textOrClosing, hostStep, hostBegun}
+use Rattle.host_state.specs.Take.{takeAsks, takeHigh, takeHeader, takeText, taken, takeClosed, takeFollows, takeStep, takeBegun}
+use Rattle.fact_meeting.specs.Meeting.{opened, exchange, exchanges, Pair}
 use Rattle.fact_meeting.proofs.Meet.{every-meeting}
 use Rattle.fact_meeting.proofs.Ways.{honest-is}
 use Rattle.base_answers.specs.Told.{told, done}
 use Rattle.base_words.specs.Words.{addressBits}
-use Rattle.base_memory.specs.Memory.{Memory}
 use Rattle.base_memory.proofs.Laws.{lies-yes, cleared-length}
-use Rattle.base_area.specs.Layout.{slotCount}
 use Rattle.base_area.specs.declared.Ring.the-variants.{Command, Response}
 use Rattle.fact_layout.proofs.Rings.{slots-some, slots-most}
 use Rattle.host_state.specs.State as HostState
-use Rattle.host_state.specs.Shake.{areaOf}
 use Rattle.host_state.specs.declared.state.Shake.the-variants.{Finished}
+use Rattle.host_state.specs.declared.state.Host.{Host}
 use Rattle.fact_traffic.specs.Instance.{settings, EveryPair, MixedRun}
 use Rattle.fact_traffic.proofs.Demand.{setup-is}
 
 pub mixed-run : MixedRun
-unfolding zeros byteAt withByte wordOf withText padded usable lies inside wordAt withWord cleared faultOf carriedOf leftOf slots base slotAt nextOf beforeOf alone indicator envelopeAt hasVector stepInterrupt areaLies areaCleared fits slotSet slotsSet setUp created saOf firstHeard saWritten tailStart tailTouch tailAfter fetchTouch fetchHigh fetchLow fetchOn fetchHeader fetchText fetched fetchRelease fetchAfter fetchTailed fetchStep fetchBegun creditsOf postTouch postHigh postLow postOn posted postRelease postAfter postTailed postStep postBegun isReady accepts begun expecting saSeen setUpBy sendTouch sendLook sendOn sent sendAfter sendStep sendBegun takeTouch takeLook takeOn takeHeader takeText taken takeClosed takeAfter takeStep takeBegun opened exchange exchanges
+unfolding zeros byteAt withByte wordOf withText padded usable lies inside wordAt withWord cleared faultOf carriedOf leftOf slots base slotAt nextOf beforeOf alone indicator envelopeAt hasVector stepInterrupt areaLies areaCleared fits slotSet slotsSet setUp created saOf firstHeard saWritten tailStart tailAsks fetchAsks fetchHigh fetchLow textOrRelease fetchHeader fetchText fetched fetchRelease fetchFollows fetchTailed fetchStep fetchBegun creditsOf postAsks postHigh postLow posted postRelease postFollows postTailed postStep postBegun isReady accepts begun expecting saSeen setUpBy sendAsks sendHigh textOrClosing sent sendFollows sendStep sendBegun takeAsks takeHigh takeHeader takeText taken takeClosed takeFollows takeStep takeBegun opened exchange exchanges portStep hostStep portBegun hostBegun testFollows markFollows
 mixed-run = refl
 
 -- the settings, the area and the setup of every pair of exponents
@@ -78,7 +78,7 @@ module _ (c r : ℕ) (i : Bool) (v : ℕ) where
 
   set-up : (m : Memory) → length m ≡ 32768 → setUpBy addressBits (HostState.fresh Finished (areaOf (settings c r i v))) 2048 m .told ≡ told done false
   set-up m e =
-      ap (λ (o : HostState.Outcome). o .told) (setup-is addressBits (areaOf (settings c r i v)) 2048 m (ap (fits addressBits (areaOf (settings c r i v)) 2048) (room m e) ∙ fitting))
+      ap (λ (o : Outcome Host). o .told) (setup-is addressBits (areaOf (settings c r i v)) 2048 m (ap (fits addressBits (areaOf (settings c r i v)) 2048) (room m e) ∙ fitting))
 
 pub every-pair : EveryPair
 every-pair c r i v x hc hr hv e l u =

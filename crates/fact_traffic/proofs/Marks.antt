@@ -10,8 +10,7 @@ use Rattle.base_area.specs.declared.Ring.{Ring}
 use Rattle.base_area.specs.declared.Ring.the-variants.{Command, Response}
 use Rattle.fact_plain.specs.Plain.{Bounds}
 use Rattle.port_state.specs.State.{withFetcher, withPoster}
-use Rattle.port_state.specs.declared.state.Fetcher.{Fetcher}
-use Rattle.port_state.specs.declared.state.Poster.{Poster}
+use Rattle.port_state.specs.declared.state.Side.{Side as Fetcher, Side as Poster}
 use Rattle.port_state.specs.declared.state.Port.{Port}
 use Rattle.host_state.specs.declared.state.Host.{Host}
 use Rattle.fact_traffic.specs.Places.{envWord, markWord, Site, addr, view}
@@ -52,5 +51,5 @@ module _ (g : Site) (end : ℕ) (b : Bounds) (S : Setting g end b) (h : Host) (p
 
   pub post-stays : (f′ : Fetcher) → PostInv g (view g marked-memory) (withPoster (withFetcher p f′) q) x q
   post-stays f′ =
-      post-frame g (view g m) (view g marked-memory) (withPoster (withFetcher p f) q) (withPoster (withFetcher p f′) q) x x q refl refl refl (omega arith) refl refl (omega arith)
+      post-frame g (view g m) (view g marked-memory) (withPoster (withFetcher p f) q) (withPoster (withFetcher p f′) q) x x q refl refl refl refl (omega arith) refl refl (omega arith)
       (λ room o l. envelope-kept Response (p .counts .post) o (rw (I .responses .giver) (slot-lt g Response (length (x .posted)))) l) (I .post)

@@ -28,18 +28,21 @@ use Rattle.fact_plain.specs.Plain.{Entry, entry, Bounds}
 use Rattle.fact_plain.specs.Log.{posts, does, noted, Allowed, Log, Ran, creditsIn}
 use Rattle.fact_plain.proofs.InOrder.{credits-more}
 use Rattle.port_state.specs.State as PortState
-use Rattle.port_state.specs.State.{with-memory, withPoster, withCounts, withHigh, withEnvelope, withAt}
-use Rattle.port_state.specs.Tail.{tailStart, tailTouch, tailAfter}
-use Rattle.port_state.specs.Post.{creditsOf, postTouch, refusePost, postHigh, postLow, postOn, posted, postRelease, postSeen, postAfter, postTailed, postStep}
-use Rattle.port_state.specs.declared.state.Cursor.{Cursor}
+use Rattle.base_side.specs.Step.{with-memory, onward}
+use Rattle.port_state.specs.State.{servingOf, withPoster, withCounts}
+use Rattle.base_side.specs.Place.{withHigh, withEnvelope, withAt}
+use Rattle.port_state.specs.Tail.{tailStart, tailAsks, testFollows, markFollows, tailFollows}
+use Rattle.port_state.specs.Post.{creditsOf, postAsks, postHigh, postLow, posted, postRelease, postFinds, postFollows, postTailed, postStep}
+use Rattle.port_state.specs.Side.{refuse, textOrRelease, portStep}
+use Rattle.base_side.specs.declared.Cursor.{Cursor}
 use Rattle.port_state.specs.declared.state.Stage.{Stage}
 use Rattle.port_state.specs.declared.state.Stage.the-variants as S
 use Rattle.port_state.specs.declared.state.TailStage.{TailStage}
 use Rattle.port_state.specs.declared.state.TailStage.the-variants as E
 use Rattle.port_state.specs.declared.state.Phase.{Phase}
 use Rattle.port_state.specs.declared.state.Phase.the-variants.{Running}
-use Rattle.port_state.specs.declared.state.Poster.{Poster}
-use Rattle.port_state.specs.declared.state.Poster.the-variants.{NoPost, Posting, PostTail}
+use Rattle.port_state.specs.declared.state.Side.{Side as Poster}
+use Rattle.port_state.specs.declared.state.Side.the-variants.{Idle as NoPost, At as Posting, Tail as PostTail}
 use Rattle.port_state.specs.declared.state.Port.{Port}
 use Rattle.host_state.specs.declared.state.Host.{Host}
 use Rattle.fact_traffic.specs.Places.{slotWord, envWord, markWord, Site, addr, view}
@@ -55,51 +58,51 @@ use Rattle.fact_traffic.proofs.WordLaws.{high-owner, high-upper, high-l
 use Rattle.fact_traffic.proofs.GiverLaws.{put-len, put-head, put-word, letter}
 
 -- a step of a running port whose touch finds a word
-post-at : (n : ℕ) (p : Port) (a : Area) (go : ℕ) (m : Memory) (s : Stage) (c : Cursor) (t : Touch) (v : ℕ) → p .phase ≡ Running a go → postTouch n (withPoster p (Posting s c)) a s c ≡ t → found n m t ≡ Value v
-    → postStep n (withPoster p (Posting s c)) m ≡ with-memory (postSeen n (withPoster p (Posting s c)) a (usable n (length m)) s c v) (left n m t)
-unfolding postStep postAfter
+post-at : (n : ℕ) (p : Port) (a : Area) (go : ℕ) (m : Memory) (s : Stage) (c : Cursor) (t : Touch) (v : ℕ) → p .phase ≡ Running a go → postAsks n (withPoster p (Posting s c)) a s c ≡ t → found n m t ≡ Value v
+    → postStep n (withPoster p (Posting s c)) m ≡ with-memory (postFinds n (withPoster p (Posting s c)) a (usable n (length m)) s c v) (left n m t)
+unfolding postStep postFollows portStep
 post-at n p a go m s c t v r e f = by-site n p a go m s c r ∙ rw (e, f)
   where
     by-site : (n : ℕ) (p : Port) (a : Area) (go : ℕ) (m : Memory) (s : Stage) (c : Cursor) → p .phase ≡ Running a go
         → postStep n (withPoster p (Posting s c)) m
-        ≡ with-memory (postAfter n (withPoster p (Posting s c)) a (usable n (length m)) s c (found n m (postTouch n (withPoster p (Posting s c)) a s c))) (left n m (postTouch n (withPoster p (Posting s c)) a s c))
-    by-site n p a go m s c r = ap (λ (y : Phase). Rattle.port_state.specs.Post.postAt n (withPoster p (Posting s c)) m (PortState.siteOf y)) r
+        ≡ with-memory (postFollows n (withPoster p (Posting s c)) a (usable n (length m)) s c (found n m (postAsks n (withPoster p (Posting s c)) a s c))) (left n m (postAsks n (withPoster p (Posting s c)) a s c))
+    by-site n p a go m s c r = ap (λ (y : Phase). portStep n (withPoster p (Posting s c)) Response (postAsks n (withPoster p (Posting s c))) (postFollows n (withPoster p (Posting s c))) (postTailed (withPoster p (Posting s c))) m (Posting s c) (servingOf y)) r
 
-tail-at : (n : ℕ) (p : Port) (a : Area) (go : ℕ) (m : Memory) (s : TailStage) (c : Cursor) (t : Touch) (v : ℕ) → p .phase ≡ Running a go → tailTouch n a Response s c ≡ t → found n m t ≡ Value v
-    → postStep n (withPoster p (PostTail s c)) m ≡ with-memory (postTailed (withPoster p (PostTail s c)) c (tailAfter a s (Value v))) (left n m t)
-unfolding postStep
+tail-at : (n : ℕ) (p : Port) (a : Area) (go : ℕ) (m : Memory) (s : TailStage) (c : Cursor) (t : Touch) (v : ℕ) → p .phase ≡ Running a go → tailAsks n a Response s c ≡ t → found n m t ≡ Value v
+    → postStep n (withPoster p (PostTail s c)) m ≡ with-memory (postTailed (withPoster p (PostTail s c)) c (tailFollows a s (Value v))) (left n m t)
+unfolding postStep portStep
 tail-at n p a go m s c t v r e f = rw (r, e, f)
 
-post-idle : (n : ℕ) (p : Port) (a : Area) (go : ℕ) (m : Memory) → p .phase ≡ Running a go → postStep n (withPoster p NoPost) m ≡ with-memory (refusePost (withPoster p NoPost) 12) m
-unfolding postStep
+post-idle : (n : ℕ) (p : Port) (a : Area) (go : ℕ) (m : Memory) → p .phase ≡ Running a go → postStep n (withPoster p NoPost) m ≡ with-memory (refuse (withPoster p NoPost) Response 12) m
+unfolding postStep portStep
 post-idle n p a go m r = rw r
 
-on-text : (c : Cursor) (k : ℕ) → k < wordsOf (c .size) → postOn c k ≡ Posting S.Text (withAt c k)
-unfolding postOn
+on-text : (c : Cursor) (k : ℕ) → k < wordsOf (c .size) → textOrRelease c k ≡ Posting S.Text (withAt c k)
+unfolding textOrRelease
 on-text c k l = rw (lt-ltb k (wordsOf (c .size)) l)
 
-on-release : (c : Cursor) (k : ℕ) → wordsOf (c .size) ≤ k → postOn c k ≡ Posting S.Release c
-unfolding postOn
+on-release : (c : Cursor) (k : ℕ) → wordsOf (c .size) ≤ k → textOrRelease c k ≡ Posting S.Release c
+unfolding textOrRelease
 on-release c k l = rw (le-ltb k (wordsOf (c .size)) l)
 
-high-8 : (p : Port) (m : Memory) (c : Cursor) (v : ℕ) → isSet owner v ≡ false → with-memory (postHigh (withPoster p (Posting S.High c)) c v) m ≡ with-memory (refusePost p 8) m
+high-8 : (p : Port) (m : Memory) (c : Cursor) (v : ℕ) → isSet owner v ≡ false → with-memory (postHigh (withPoster p (Posting S.High c)) c v) m ≡ with-memory (refuse p Response 8) m
 unfolding postHigh
 high-8 p m c v e = rw e
 
 high-on : (p : Port) (m : Memory) (c : Cursor) (v : ℕ) → isSet owner v ≡ true
-    → with-memory (postHigh (withPoster p (Posting S.High c)) c v) m ≡ with-memory (PortState.onward (withPoster p (Posting S.Low (withHigh c v)))) m
+    → with-memory (postHigh (withPoster p (Posting S.High c)) c v) m ≡ with-memory (onward (withPoster p (Posting S.Low (withHigh c v)))) m
 unfolding postHigh
 high-on p m c v e = rw e
 
 low-on : (n : ℕ) (p : Port) (m : Memory) (end a e : ℕ) (c : Cursor) (v : ℕ) → addressOf n v (c .high) ≡ a → 4 ≤ a → a + 2 * wordsOf (c .size) ≤ end → a - 4 ≡ e
-    → with-memory (postLow n (withPoster p (Posting S.Low c)) end c v) m ≡ with-memory (PortState.onward (withPoster p (Posting S.Length (withEnvelope c e)))) m
+    → with-memory (postLow n (withPoster p (Posting S.Low c)) end c v) m ≡ with-memory (onward (withPoster p (Posting S.Length (withEnvelope c e)))) m
 unfolding postLow
 low-on n p m end a e c v q l u d = rw (q, le-leb 4 a l, le-leb (a + 2 * wordsOf (c .size)) end u, d)
 
 -- the credits that a post carries, written out
-credits-are : (p : Port) (c : Cursor) → creditsOf p c ≡ cond (c .answers) (carriedOf (p .counts .owed)) 0
+credits-are : (p : Port) → creditsOf p ≡ cond (p .asked .answers) (carriedOf (p .counts .owed)) 0
 unfolding creditsOf
-credits-are p c = refl
+credits-are p = refl
 
 few-credits : (a : Bool) (k : ℕ) → cond a (carriedOf k) 0 < 16
 few-credits true k = omega (arith, carried-bounds k .1)
@@ -110,33 +113,33 @@ module _ (g : Site) (end : ℕ) (b : Bounds) (S′ : Setting g end b) (h : Host)
   F = S′ .facts
 
   abbrev carries : Cursor → ℕ
-  carries c = cond (c .answers) (carriedOf (p .counts .owed)) 0
+  carries c = cond (p .asked .answers) (carriedOf (p .counts .owed)) 0
 
-  touch-high : (c : Cursor) → c .slot ≡ p .counts .post → postTouch (g .bits) (withPoster p (Posting S.High c)) (g .area) S.High c ≡ Read (addr g (slotWord Response (p .counts .post) 2))
-  unfolding postTouch
+  touch-high : (c : Cursor) → c .slot ≡ p .counts .post → postAsks (g .bits) (withPoster p (Posting S.High c)) (g .area) S.High c ≡ Read (addr g (slotWord Response (p .counts .post) 2))
+  unfolding postAsks
   touch-high c s = rw s
 
-  touch-low : (c : Cursor) → c .slot ≡ p .counts .post → postTouch (g .bits) (withPoster p (Posting S.Low c)) (g .area) S.Low c ≡ Read (addr g (slotWord Response (p .counts .post) 0))
-  unfolding postTouch
+  touch-low : (c : Cursor) → c .slot ≡ p .counts .post → postAsks (g .bits) (withPoster p (Posting S.Low c)) (g .area) S.Low c ≡ Read (addr g (slotWord Response (p .counts .post) 0))
+  unfolding postAsks
   touch-low c s = rw s (ap Read (omega arith))
 
   touch-len : (c : Cursor) → c .slot ≡ p .counts .post → c .envelope ≡ envelopeAt (g .area) (g .pool) Response (c .slot)
-      → postTouch (g .bits) (withPoster p (Posting S.Length c)) (g .area) S.Length c ≡ Write (addr g (envWord Response (p .counts .post) 0)) (c .size)
-  unfolding postTouch
+      → postAsks (g .bits) (withPoster p (Posting S.Length c)) (g .area) S.Length c ≡ Write (addr g (envWord Response (p .counts .post) 0)) (c .size)
+  unfolding postAsks
   touch-len c s e = rw (e, s) (ap (λ (k : ℕ). Write k (c .size)) (omega arith))
 
   touch-head : (c : Cursor) → c .slot ≡ p .counts .post → c .envelope ≡ envelopeAt (g .area) (g .pool) Response (c .slot)
-      → postTouch (g .bits) (withPoster p (Posting S.Header c)) (g .area) S.Header c ≡ Write (addr g (envWord Response (p .counts .post) 2)) (headerWord (carries c))
-  unfolding postTouch creditsOf
+      → postAsks (g .bits) (withPoster p (Posting S.Header c)) (g .area) S.Header c ≡ Write (addr g (envWord Response (p .counts .post) 2)) (headerWord (carries c))
+  unfolding postAsks creditsOf
   touch-head c s e = rw (e, s)
 
   touch-text : (c : Cursor) → c .slot ≡ p .counts .post → c .envelope ≡ envelopeAt (g .area) (g .pool) Response (c .slot)
-      → postTouch (g .bits) (withPoster p (Posting S.Text c)) (g .area) S.Text c ≡ Write (addr g (envWord Response (p .counts .post) (4 + 2 * c .at))) (wordOf (p .outgoing) (c .size) (c .at))
-  unfolding postTouch
+      → postAsks (g .bits) (withPoster p (Posting S.Text c)) (g .area) S.Text c ≡ Write (addr g (envWord Response (p .counts .post) (4 + 2 * c .at))) (wordOf (p .outgoing) (c .size) (c .at))
+  unfolding postAsks
   touch-text c s e = rw (e, s) (ap (λ (k : ℕ). Write k (wordOf (p .outgoing) (c .size) (c .at))) (omega arith))
 
-  touch-release : (c : Cursor) → c .slot ≡ p .counts .post → postTouch (g .bits) (withPoster p (Posting S.Release c)) (g .area) S.Release c ≡ Write (addr g (slotWord Response (p .counts .post) 2)) (highWord false true (c .high))
-  unfolding postTouch
+  touch-release : (c : Cursor) → c .slot ≡ p .counts .post → postAsks (g .bits) (withPoster p (Posting S.Release c)) (g .area) S.Release c ≡ Write (addr g (slotWord Response (p .counts .post) 2)) (highWord false true (c .high))
+  unfolding postAsks
   touch-release c s = rw s
 
   module _ (q : Poster) (I : Inv g end b (world h (withPoster p q) m) x) where
@@ -184,8 +187,8 @@ module _ (g : Site) (end : ℕ) (b : Bounds) (S′ : Setting g end b) (h : Host)
       record { moment = now; past = x; inv = I; same = refl; ran = λ l r. r; calm = refl; timed = λ k j u v. refl; fetch-counted = λ k u. u; post-counted = λ k u. u }
 
   -- an answer that is asked for has an open command
-  allowed : (s : Stage) (c : Cursor) (I : Inv g end b (world h (withPoster p (Posting s c)) m) x) → Allowed (posts (c .answers) (x .posting)) (plainOf (world h (withPoster p (Posting s c)) m) x)
-  allowed s c I = go (c .answers) (I .post .waits)
+  allowed : (s : Stage) (c : Cursor) (I : Inv g end b (world h (withPoster p (Posting s c)) m) x) → Allowed (posts (p .asked .answers) (x .posting)) (plainOf (world h (withPoster p (Posting s c)) m) x)
+  allowed s c I = go (p .asked .answers) (I .post .owed-one)
     where
       go : (a : Bool) → (a ≡ true → 1 ≤ p .counts .unanswered) → Allowed (posts a (x .posting)) (plainOf (world h (withPoster p (Posting s c)) m) x)
       go true f = f refl
@@ -216,8 +219,8 @@ module _ (g : Site) (end : ℕ) (b : Bounds) (S′ : Setting g end b) (h : Host)
             moment = now;
             past = x;
             inv = with-post (Posting S.High c) I NoPost tt;
-            same = rw (post-8 b (plainOf w x) (c .answers) (x .posting) k);
-            ran = ran-does b (plainOf w x) (posts (c .answers) (x .posting)) (allowed S.High c I) _ (post-8 b (plainOf w x) (c .answers) (x .posting) k);
+            same = rw (post-8 b (plainOf w x) (p .asked .answers) (x .posting) k);
+            ran = ran-does b (plainOf w x) (posts (p .asked .answers) (x .posting)) (allowed S.High c I) _ (post-8 b (plainOf w x) (p .asked .answers) (x .posting) k);
             calm = refl;
             timed = λ k j u v. refl;
             fetch-counted = λ k u. u;
@@ -237,7 +240,7 @@ module _ (g : Site) (end : ℕ) (b : Bounds) (S′ : Setting g end b) (h : Host)
                   short = I .post .short;
                   bytes = I .post .bytes;
                   text = I .post .text;
-                  waits = I .post .waits;
+                  owed-one = I .post .owed-one;
                   progress = (room, rw (I .post .slot) (I .responses .highs (p .counts .post) (here (Posting S.High c) I)));
                 };
             same = refl;
@@ -272,7 +275,7 @@ module _ (g : Site) (end : ℕ) (b : Bounds) (S′ : Setting g end b) (h : Host)
               short = I .post .short;
               bytes = I .post .bytes;
               text = I .post .text;
-              waits = I .post .waits;
+              owed-one = I .post .owed-one;
               progress = (I .post .progress .0, (I .post .progress .1, ap (λ (y : ℕ). envelopeAt (g .area) (g .pool) Response y) (sym (I .post .slot))));
             };
         same = refl;
@@ -302,7 +305,7 @@ module _ (g : Site) (end : ℕ) (b : Bounds) (S′ : Setting g end b) (h : Host)
               short = I .post .short;
               bytes = I .post .bytes;
               text = I .post .text;
-              waits = I .post .waits;
+              owed-one = I .post .owed-one;
               progress = (P .0, (P .1 .0, (P .1 .1, rw (I .post .slot) (put-len g end F m (I .size) Response i at (x .posting) (I .post .short) (c .size) (I .post .size)))));
             };
         same = refl;
@@ -317,13 +320,13 @@ module _ (g : Site) (end : ℕ) (b : Bounds) (S′ : Setting g end b) (h : Host)
   on-sim : (s : Stage) (c : Cursor) (k o v : ℕ) → o + 2 ≤ 64 → (I : Inv g end b (world h (withPoster p (Posting s c)) m) x) → PostRoom g x
       → of (addressHigh (g .bits)) (c .high) ≡ upperOf g Response (c .slot) → c .envelope ≡ envelopeAt (g .area) (g .pool) Response (c .slot) → k ≤ wordsOf (length (x .posting)) → stepsTo s c ≡ 3 + k
       → Written (view g (withWord (g .bits) m (addr g (envWord Response (p .counts .post) o)) v)) Response (p .counts .post) (x .posting) (carries c) k
-      → postStep (g .bits) (withPoster p (Posting s c)) m ≡ with-memory (PortState.onward (withPoster p (postOn c k))) (withWord (g .bits) m (addr g (envWord Response (p .counts .post) o)) v)
+      → postStep (g .bits) (withPoster p (Posting s c)) m ≡ with-memory (onward (withPoster p (textOrRelease c k))) (withWord (g .bits) m (addr g (envWord Response (p .counts .post) o)) v)
       → Sim g end b stepPost (world h (withPoster p (Posting s c)) m) x (byPort (world h (withPoster p (Posting s c)) m) (postStep (g .bits) (withPoster p (Posting s c)) m))
   on-sim s c k o v l I room up en u st W e =
       elim (lt-or-ge k (wordsOf (c .size))) [
         | inl more ↦
             sim-of g end b stepPost (world h (withPoster p (Posting s c)) m) x (byPort (world h (withPoster p (Posting s c)) m))
-            (e ∙ ap (λ (y : Poster). with-memory (PortState.onward (withPoster p y)) m′) (on-text c k more))
+            (e ∙ ap (λ (y : Poster). with-memory (onward (withPoster p y)) m′) (on-text c k more))
             record {
               moment = later;
               past = x;
@@ -334,8 +337,8 @@ module _ (g : Site) (end : ℕ) (b : Bounds) (S′ : Setting g end b) (h : Host)
                     short = I .post .short;
                     bytes = I .post .bytes;
                     text = I .post .text;
-                    waits = I .post .waits;
-                    progress = (room, (up, (en, (subst (λ (y : ℕ). Written (view g m′) Response (c .slot) (x .posting) y k) (sym (credits-are (withPoster p (Posting S.Text (withAt c k))) (withAt c k))) (rw (I .post .slot) W), rw (← I .post .size) more))));
+                    owed-one = I .post .owed-one;
+                    progress = (room, (up, (en, (subst (λ (y : ℕ). Written (view g m′) Response (c .slot) (x .posting) y k) (sym (credits-are (withPoster p (Posting S.Text (withAt c k))))) (rw (I .post .slot) W), rw (← I .post .size) more))));
                   };
               same = refl;
               ran = λ y r. r;
@@ -346,7 +349,7 @@ module _ (g : Site) (end : ℕ) (b : Bounds) (S′ : Setting g end b) (h : Host)
             }
         | inr none ↦
             sim-of g end b stepPost (world h (withPoster p (Posting s c)) m) x (byPort (world h (withPoster p (Posting s c)) m))
-            (e ∙ ap (λ (y : Poster). with-memory (PortState.onward (withPoster p y)) m′) (on-release c k none))
+            (e ∙ ap (λ (y : Poster). with-memory (onward (withPoster p y)) m′) (on-release c k none))
             record {
               moment = later;
               past = x;
@@ -357,12 +360,12 @@ module _ (g : Site) (end : ℕ) (b : Bounds) (S′ : Setting g end b) (h : Host)
                     short = I .post .short;
                     bytes = I .post .bytes;
                     text = I .post .text;
-                    waits = I .post .waits;
+                    owed-one = I .post .owed-one;
                     progress = (
                       room,
                       (
                         up,
-                        subst (λ (y : ℕ). Written (view g m′) Response (c .slot) (x .posting) y (wordsOf (length (x .posting)))) (sym (credits-are (withPoster p (Posting S.Release c)) c))
+                        subst (λ (y : ℕ). Written (view g m′) Response (c .slot) (x .posting) y (wordsOf (length (x .posting)))) (sym (credits-are (withPoster p (Posting S.Release c))))
                             (rw (I .post .slot) (subst (λ (y : ℕ). Written (view g m′) Response (p .counts .post) (x .posting) (carries c) y) (all none) W)),
                       ),
                     );
@@ -405,7 +408,7 @@ module _ (g : Site) (end : ℕ) (b : Bounds) (S′ : Setting g end b) (h : Host)
       on-sim S.Text c (c .at + 1) (4 + 2 * c .at) v (omega (arith, few, I .post .short)) I (P .0) (P .1 .0) (P .1 .1 .0) (omega (arith, few)) (omega arith)
       (put-word g end F m (I .size) Response i at (x .posting) (I .post .short) (carries c) (c .at) v (I .post .bytes) few
       (ap (λ (y : List ℕ). wordOf y (c .size) (c .at)) (I .post .text) ∙ ap (λ (y : ℕ). wordOf (padded (x .posting)) y (c .at)) (I .post .size))
-      (rw (← I .post .slot) (subst (λ (y : ℕ). Written (view g m) Response (c .slot) (x .posting) y (c .at)) (credits-are (withPoster p (Posting S.Text c)) c) (P .1 .1 .1 .0))))
+      (rw (← I .post .slot) (subst (λ (y : ℕ). Written (view g m) Response (c .slot) (x .posting) y (c .at)) (credits-are (withPoster p (Posting S.Text c))) (P .1 .1 .1 .0))))
       (post-at (g .bits) p (g .area) (I .agreed .go) m S.Text c (Write (addr g (envWord Response i (4 + 2 * c .at))) v) v (I .agreed .port-runs)
       (touch-text c (I .post .slot) (P .1 .1 .0)) (writes g end F m (I .size) (envWord Response i (4 + 2 * c .at)) v (at, omega (arith, few, I .post .short))))
 
@@ -416,8 +419,8 @@ module _ (g : Site) (end : ℕ) (b : Bounds) (S′ : Setting g end b) (h : Host)
       (record {
         fetch = p .counts .fetch;
         post = (p .counts .post + 1) % slots (g .area) Response;
-        owed = cond (c .answers) (leftOf (p .counts .owed)) (p .counts .owed);
-        unanswered = cond (c .answers) (p .counts .unanswered - 1) (p .counts .unanswered);
+        owed = cond (p .asked .answers) (leftOf (p .counts .owed)) (p .counts .owed);
+        unanswered = cond (p .asked .answers) (p .counts .unanswered - 1) (p .counts .unanswered);
       })
 
   abbrev one-more : Cursor → Past
@@ -438,7 +441,7 @@ module _ (g : Site) (end : ℕ) (b : Bounds) (S′ : Setting g end b) (h : Host)
   release-closes c k s e = rw (e, s)
 
   release-goes : (c : Cursor) (k : Memory) → c .slot ≡ p .counts .post → isSet flagged (c .high) ≡ true
-      → with-memory (postRelease (withPoster p (Posting S.Release c)) (g .area) c) k ≡ with-memory (PortState.onward (withPoster (counted c) (PostTail (tailStart (g .area) Response) c))) k
+      → with-memory (postRelease (withPoster p (Posting S.Release c)) (g .area) c) k ≡ with-memory (onward (withPoster (counted c) (PostTail (tailStart (g .area) Response) c))) k
   unfolding postRelease posted nextOf
   release-goes c k s e = rw (e, s)
 
@@ -476,9 +479,9 @@ module _ (g : Site) (end : ℕ) (b : Bounds) (S′ : Setting g end b) (h : Host)
         ]
 
     -- what the four come to
-    sum-after : h .counts .account + (length (drop (x .fetched) (x .sent)) + cond (c .answers) (p .counts .unanswered - 1) (p .counts .unanswered))
-        + creditsIn (drop (x .taken) (x .posted ++ (entry (x .posting) (carries c) ∷ []))) + cond (c .answers) (leftOf (p .counts .owed)) (p .counts .owed) ≡ b .limit
-    sum-after = rw (more, credits-more (drop (x .taken) (x .posted)) (entry (x .posting) (carries c))) (go (c .answers) (I .post .waits))
+    sum-after : h .counts .account + (length (drop (x .fetched) (x .sent)) + cond (p .asked .answers) (p .counts .unanswered - 1) (p .counts .unanswered))
+        + creditsIn (drop (x .taken) (x .posted ++ (entry (x .posting) (carries c) ∷ []))) + cond (p .asked .answers) (leftOf (p .counts .owed)) (p .counts .owed) ≡ b .limit
+    sum-after = rw (more, credits-more (drop (x .taken) (x .posted)) (entry (x .posting) (carries c))) (go (p .asked .answers) (I .post .owed-one))
       where
         go : (a : Bool) → (a ≡ true → 1 ≤ p .counts .unanswered)
             → h .counts .account + (length (drop (x .fetched) (x .sent)) + cond a (p .counts .unanswered - 1) (p .counts .unanswered))
@@ -503,11 +506,11 @@ module _ (g : Site) (end : ℕ) (b : Bounds) (S′ : Setting g end b) (h : Host)
               lows
               (λ s l o u. kept g end F m (I .size) (slotWord Response i 2) (envWord Response s o) v (slot-env g end F Response i 2 Response s o (at, omega arith) (l, u)))
               (entry (x .posting) (carries c)) refl (ap not (high-owner false true (c .high))) room
-              (letter (view g m) Response i (x .posting) (carries c) (I .post .short) (I .post .bytes) (few-credits (c .answers) (p .counts .owed))
-              (rw (← I .post .slot) (subst (λ (y : ℕ). Written (view g m) Response (c .slot) (x .posting) y (wordsOf (length (x .posting)))) (credits-are (withPoster p (Posting S.Release c)) c) (I .post .progress .1 .1))));
+              (letter (view g m) Response i (x .posting) (carries c) (I .post .short) (I .post .bytes) (few-credits (p .asked .answers) (p .counts .owed))
+              (rw (← I .post .slot) (subst (λ (y : ℕ). Written (view g m) Response (c .slot) (x .posting) y (wordsOf (length (x .posting)))) (credits-are (withPoster p (Posting S.Release c))) (I .post .progress .1 .1))));
           send = send-frame g (view g m) (view g (withWord (g .bits) m (addr g (slotWord Response i 2)) v)) h h x (one-more c) (h .sender) refl refl (omega arith) refl refl (omega arith)
               (λ o l. kept g end F m (I .size) (slotWord Response i 2) (envWord Command (h .counts .send) o) v (slot-env g end F Response i 2 Command (h .counts .send) o (at, omega arith) (send-in (Posting S.Release c) I, l))) (I .send);
-          take = take-frame g h h x (one-more c) (h .taker) refl refl refl (simp length-append (omega arith)) (λ k. next-kept (x .posted) (entry (x .posting) (carries c)) (x .taken) k) (I .take);
+          take = take-frame g h h x (one-more c) (h .taker) refl refl refl refl (simp length-append (omega arith)) (λ k. next-kept (x .posted) (entry (x .posting) (carries c)) (x .taken) k) (I .take);
           fetch = fetch-frame g (withPoster p (Posting S.Release c)) (withPoster (counted c) q′) x (one-more c) (p .fetcher) refl refl refl refl (omega arith) (λ k. refl) (I .fetch);
           post = new;
           sum = sum-after;
@@ -520,38 +523,38 @@ module _ (g : Site) (end : ℕ) (b : Bounds) (S′ : Setting g end b) (h : Host)
         w = world h (withPoster p (Posting S.Release c)) m
 
         logged : (l : Log) → Ran b l (plainOf w x)
-            → Ran b (noted b (posts (c .answers) (x .posting)) (does b (posts (c .answers) (x .posting)) (plainOf w x) .answer) l)
+            → Ran b (noted b (posts (p .asked .answers) (x .posting)) (does b (posts (p .asked .answers) (x .posting)) (plainOf w x) .answer) l)
             (record {
               commands = drop (x .fetched) (x .sent);
               responses = drop (x .taken) (x .posted ++ (entry (x .posting) (carries c) ∷ []));
               account = h .counts .account;
-              unanswered = cond (c .answers) (p .counts .unanswered - 1) (p .counts .unanswered);
-              owed = cond (c .answers) (leftOf (p .counts .owed)) (p .counts .owed);
+              unanswered = cond (p .asked .answers) (p .counts .unanswered - 1) (p .counts .unanswered);
+              owed = cond (p .asked .answers) (leftOf (p .counts .owed)) (p .counts .owed);
             })
         logged l r =
             subst
             (λ (y : List Entry).
-            Ran b (noted b (posts (c .answers) (x .posting)) (does b (posts (c .answers) (x .posting)) (plainOf w x) .answer) l)
+            Ran b (noted b (posts (p .asked .answers) (x .posting)) (does b (posts (p .asked .answers) (x .posting)) (plainOf w x) .answer) l)
             (record {
               commands = drop (x .fetched) (x .sent);
               responses = y;
               account = h .counts .account;
-              unanswered = cond (c .answers) (p .counts .unanswered - 1) (p .counts .unanswered);
-              owed = cond (c .answers) (leftOf (p .counts .owed)) (p .counts .owed);
+              unanswered = cond (p .asked .answers) (p .counts .unanswered - 1) (p .counts .unanswered);
+              owed = cond (p .asked .answers) (leftOf (p .counts .owed)) (p .counts .owed);
             })) (sym more)
-            (ran-does b (plainOf w x) (posts (c .answers) (x .posting)) (allowed S.Release c I) _ (post-ok b (plainOf w x) (c .answers) (x .posting) space) l r)
+            (ran-does b (plainOf w x) (posts (p .asked .answers) (x .posting)) (allowed S.Release c I) _ (post-ok b (plainOf w x) (p .asked .answers) (x .posting) space) l r)
 
         by : (o : Bool) → isSet flagged (c .high) ≡ o → Sim g end b stepPost w x (byPort w (postStep (g .bits) (withPoster p (Posting S.Release c)) m))
         by false e =
             sim-of g end b stepPost w x (byPort w) (step ∙ release-closes c after (I .post .slot) e)
-            record { moment = now; past = one-more c; inv = given NoPost tt; same = rw (post-ok b (plainOf w x) (c .answers) (x .posting) space, more); ran = logged; calm = refl; timed = λ k j u v. refl; fetch-counted = λ k u. u; post-counted = λ k u. tt }
+            record { moment = now; past = one-more c; inv = given NoPost tt; same = rw (post-ok b (plainOf w x) (p .asked .answers) (x .posting) space, more); ran = logged; calm = refl; timed = λ k j u v. refl; fetch-counted = λ k u. u; post-counted = λ k u. tt }
         by true e =
             sim-of g end b stepPost w x (byPort w) (step ∙ release-goes c after (I .post .slot) e)
             record {
               moment = untold;
               past = one-more c;
               inv = given (PostTail (tailStart (g .area) Response) c) (rw (I .post .slot) at);
-              same = rw (post-ok b (plainOf w x) (c .answers) (x .posting) space, more);
+              same = rw (post-ok b (plainOf w x) (p .asked .answers) (x .posting) space, more);
               ran = logged;
               calm = refl;
               timed = λ k j u v. due j _ (v ∙ ap (λ (y : ℕ). 4 + wordsOf y) (I .post .size));
@@ -560,28 +563,28 @@ module _ (g : Site) (end : ℕ) (b : Bounds) (S′ : Setting g end b) (h : Host)
             }
 
   -- the tail: the previous slot's test, and the indicator
-  touch-test : (c : Cursor) → tailTouch (g .bits) (g .area) Response E.Test c ≡ Read (addr g (slotWord Response (beforeOf (g .area) Response (c .slot)) 2))
-  unfolding tailTouch
+  touch-test : (c : Cursor) → tailAsks (g .bits) (g .area) Response E.Test c ≡ Read (addr g (slotWord Response (beforeOf (g .area) Response (c .slot)) 2))
+  unfolding tailAsks
   touch-test c = refl
 
-  touch-mark : (c : Cursor) → tailTouch (g .bits) (g .area) Response E.Mark c ≡ Write (addr g (markWord Response)) 1
-  unfolding tailTouch
+  touch-mark : (c : Cursor) → tailAsks (g .bits) (g .area) Response E.Mark c ≡ Write (addr g (markWord Response)) 1
+  unfolding tailAsks
   touch-mark c = F .indicator-at Response 1
 
   test-goes : (c : Cursor) (k : Memory) (v : ℕ) → isSet owner v ≡ true
-      → with-memory (postTailed (withPoster p (PostTail E.Test c)) c (tailAfter (g .area) E.Test (Value v))) k ≡ with-memory (PortState.onward (withPoster p (PostTail E.Mark c))) k
-  unfolding postTailed tailAfter
+      → with-memory (postTailed (withPoster p (PostTail E.Test c)) c (tailFollows (g .area) E.Test (Value v))) k ≡ with-memory (onward (withPoster p (PostTail E.Mark c))) k
+  unfolding postTailed testFollows markFollows
   test-goes c k v e = rw e
 
   test-closes : (c : Cursor) (k : Memory) (v : ℕ) → isSet owner v ≡ false
-      → with-memory (postTailed (withPoster p (PostTail E.Test c)) c (tailAfter (g .area) E.Test (Value v))) k ≡ with-memory (record { told = told done false; state = withPoster p NoPost }) k
-  unfolding postTailed tailAfter
+      → with-memory (postTailed (withPoster p (PostTail E.Test c)) c (tailFollows (g .area) E.Test (Value v))) k ≡ with-memory (record { told = told done false; state = withPoster p NoPost }) k
+  unfolding postTailed testFollows markFollows
   test-closes c k v e = rw e
 
   mark-closes : (c : Cursor) (k : Memory) (v : ℕ)
-      → with-memory (postTailed (withPoster p (PostTail E.Mark c)) c (tailAfter (g .area) E.Mark (Value v))) k
+      → with-memory (postTailed (withPoster p (PostTail E.Mark c)) c (tailFollows (g .area) E.Mark (Value v))) k
       ≡ with-memory (record { told = told done (hasVector (g .area .first)); state = withPoster p NoPost }) k
-  unfolding postTailed tailAfter
+  unfolding postTailed testFollows markFollows
   mark-closes c k v = refl
 
   test : (c : Cursor) → Inv g end b (world h (withPoster p (PostTail E.Test c)) m) x
@@ -594,7 +597,7 @@ module _ (g : Site) (end : ℕ) (b : Bounds) (S′ : Setting g end b) (h : Host)
       word : ℕ
       word = view g m (slotWord Response (beforeOf (g .area) Response (c .slot)) 2)
 
-      step : postStep (g .bits) (withPoster p (PostTail E.Test c)) m ≡ with-memory (postTailed (withPoster p (PostTail E.Test c)) c (tailAfter (g .area) E.Test (Value word))) m
+      step : postStep (g .bits) (withPoster p (PostTail E.Test c)) m ≡ with-memory (postTailed (withPoster p (PostTail E.Test c)) c (tailFollows (g .area) E.Test (Value word))) m
       step =
           tail-at (g .bits) p (g .area) (I .agreed .go) m E.Test c (Read (addr g (slotWord Response (beforeOf (g .area) Response (c .slot)) 2))) word (I .agreed .port-runs)
           (touch-test c) (reads g end F m (I .size) (slotWord Response (beforeOf (g .area) Response (c .slot)) 2) (every-layout .ring (g .area) Response .before-in (c .slot) (I .post), omega arith))

@@ -24,14 +24,16 @@ use Rattle.fact_plain.specs.Plain.{Entry, entry, Bounds}
 use Rattle.fact_plain.specs.Log.{sends, does, noted, Ran, creditsIn}
 use Rattle.port_state.specs.declared.state.Port.{Port}
 use Rattle.host_state.specs.State as HostState
-use Rattle.host_state.specs.State.{isReady, with-memory, withSender, withHigh, withAt}
-use Rattle.host_state.specs.Send.{sendTouch, refuseSend, sendLook, sendOn, sent, sendSeen, sendAfter, sendStep}
-use Rattle.host_state.specs.declared.state.Cursor.{Cursor}
-use Rattle.host_state.specs.declared.state.SendStage.{SendStage}
-use Rattle.host_state.specs.declared.state.SendStage.the-variants as H
-use Rattle.host_state.specs.declared.state.Sender.{Sender}
-use Rattle.host_state.specs.declared.state.Sender.the-variants.{NoSend, Sending}
-use Rattle.host_state.specs.declared.state.Taker.{Taker}
+use Rattle.host_state.specs.State.{isReady, withSender}
+use Rattle.base_side.specs.Step.{with-memory, onward}
+use Rattle.base_side.specs.Place.{withHigh, withAt}
+use Rattle.host_state.specs.Send.{sendAsks, sendHigh, sent, sendFinds, sendFollows, sendStep}
+use Rattle.host_state.specs.Side.{refuse, textOrClosing, hostStep}
+use Rattle.base_side.specs.declared.Cursor.{Cursor}
+use Rattle.host_state.specs.declared.state.Stage.{Stage as SendStage}
+use Rattle.host_state.specs.declared.state.Stage.the-variants as H
+use Rattle.host_state.specs.declared.state.Side.{Side as Sender, Side as Taker}
+use Rattle.host_state.specs.declared.state.Side.the-variants.{Idle as NoSend, At as Sending}
 use Rattle.host_state.specs.declared.state.Host.{Host}
 use Rattle.fact_traffic.specs.Places.{slotWord, envWord, Site, addr, view}
 use Rattle.fact_traffic.specs.Rings.{blank, RingInv}
@@ -46,36 +48,36 @@ use Rattle.fact_traffic.proofs.GiverLaws.{put-len, put-head, put-word, 
 use Rattle.fact_traffic.proofs.WordLaws.{high-owner, high-upper, with-upper, low-lt, high-lt, upper-small}
 
 -- a step of a ready host whose touch finds a word
-send-at : (n : ℕ) (h : Host) (m : Memory) (s : SendStage) (c : Cursor) (t : Touch) (v : ℕ) → isReady h ≡ true → sendTouch n (withSender h (Sending s c)) s c ≡ t → found n m t ≡ Value v
-    → sendStep n (withSender h (Sending s c)) m ≡ with-memory (sendSeen (withSender h (Sending s c)) s c v) (left n m t)
-unfolding sendStep sendAfter isReady
+send-at : (n : ℕ) (h : Host) (m : Memory) (s : SendStage) (c : Cursor) (t : Touch) (v : ℕ) → isReady h ≡ true → sendAsks n (withSender h (Sending s c)) s c ≡ t → found n m t ≡ Value v
+    → sendStep n (withSender h (Sending s c)) m ≡ with-memory (sendFinds (withSender h (Sending s c)) s c v) (left n m t)
+unfolding sendStep sendFollows isReady hostStep
 send-at n h m s c t v r e f = rw (r, e, f)
 
-send-idle : (n : ℕ) (h : Host) (m : Memory) → isReady h ≡ true → sendStep n (withSender h NoSend) m ≡ with-memory (refuseSend (withSender h NoSend) 12) m
-unfolding sendStep isReady
+send-idle : (n : ℕ) (h : Host) (m : Memory) → isReady h ≡ true → sendStep n (withSender h NoSend) m ≡ with-memory (refuse (withSender h NoSend) Command 12) m
+unfolding sendStep isReady hostStep
 send-idle n h m r = rw r
 
-on-text : (c : Cursor) (k : ℕ) → k < wordsOf (c .size) → sendOn c k ≡ Sending H.Text (withAt c k)
-unfolding sendOn
+on-text : (c : Cursor) (k : ℕ) → k < wordsOf (c .size) → textOrClosing c k ≡ Sending H.Text (withAt c k)
+unfolding textOrClosing
 on-text c k l = rw (lt-ltb k (wordsOf (c .size)) l)
 
-on-low : (c : Cursor) (k : ℕ) → wordsOf (c .size) ≤ k → sendOn c k ≡ Sending H.Low c
-unfolding sendOn
+on-low : (c : Cursor) (k : ℕ) → wordsOf (c .size) ≤ k → textOrClosing c k ≡ Sending H.Closing c
+unfolding textOrClosing
 on-low c k l = rw (le-ltb k (wordsOf (c .size)) l)
 
 -- what the look comes to
-look-5 : (n : ℕ) (h : Host) (m : Memory) (c : Cursor) (v : ℕ) → h .counts .account ≡ 0 → with-memory (sendLook (withSender h (Sending H.Look c)) c v) m ≡ with-memory (refuseSend h 5) m
-unfolding sendLook
+look-5 : (n : ℕ) (h : Host) (m : Memory) (c : Cursor) (v : ℕ) → h .counts .account ≡ 0 → with-memory (sendHigh (withSender h (Sending H.High c)) c v) m ≡ with-memory (refuse h Command 5) m
+unfolding sendHigh
 look-5 n h m c v z = rw (eq-eqb (h .counts .account) 0 z)
 
 look-6 : (h : Host) (m : Memory) (c : Cursor) (v : ℕ) → (h .counts .account ≡ 0 → ⊥) → isSet owner v ≡ true
-    → with-memory (sendLook (withSender h (Sending H.Look c)) c v) m ≡ with-memory (refuseSend h 6) m
-unfolding sendLook
+    → with-memory (sendHigh (withSender h (Sending H.High c)) c v) m ≡ with-memory (refuse h Command 6) m
+unfolding sendHigh
 look-6 h m c v z e = rw (ne-eqb (h .counts .account) 0 z, e)
 
 look-on : (h : Host) (m : Memory) (c : Cursor) (v : ℕ) → (h .counts .account ≡ 0 → ⊥) → isSet owner v ≡ false
-    → with-memory (sendLook (withSender h (Sending H.Look c)) c v) m ≡ with-memory (HostState.onward (withSender h (Sending H.Length (withHigh c v)))) m
-unfolding sendLook
+    → with-memory (sendHigh (withSender h (Sending H.High c)) c v) m ≡ with-memory (onward (withSender h (Sending H.Length (withHigh c v)))) m
+unfolding sendHigh
 look-on h m c v z e = rw (ne-eqb (h .counts .account) 0 z, e)
 
 module _ (g : Site) (end : ℕ) (b : Bounds) (S : Setting g end b) (h : Host) (p : Port) (m : Memory) (x : Past) where
@@ -83,41 +85,41 @@ module _ (g : Site) (end : ℕ) (b : Bounds) (S : Setting g end b) (h : Host) (p
   F = S .facts
 
   -- the words that the stages touch, as places
-  touch-look : (c : Cursor) → h .area ≡ g .area → (h .counts .account ≡ 0 → ⊥) → sendTouch (g .bits) (withSender h (Sending H.Look c)) H.Look c ≡ Read (addr g (slotWord Command (c .slot) 2))
-  unfolding sendTouch
+  touch-look : (c : Cursor) → h .area ≡ g .area → (h .counts .account ≡ 0 → ⊥) → sendAsks (g .bits) (withSender h (Sending H.High c)) H.High c ≡ Read (addr g (slotWord Command (c .slot) 2))
+  unfolding sendAsks
   touch-look c a k = rw (ne-eqb (h .counts .account) 0 k, a)
 
-  touch-none : (c : Cursor) → h .counts .account ≡ 0 → sendTouch (g .bits) (withSender h (Sending H.Look c)) H.Look c ≡ Nothing
-  unfolding sendTouch
+  touch-none : (c : Cursor) → h .counts .account ≡ 0 → sendAsks (g .bits) (withSender h (Sending H.High c)) H.High c ≡ Nothing
+  unfolding sendAsks
   touch-none c k = rw (eq-eqb (h .counts .account) 0 k)
 
-  touch-len : (c : Cursor) → h .area ≡ g .area → h .pool ≡ g .pool → c .slot ≡ h .counts .send
-      → sendTouch (g .bits) (withSender h (Sending H.Length c)) H.Length c ≡ Write (addr g (envWord Command (h .counts .send) 0)) (c .size)
-  unfolding sendTouch
-  touch-len c a q s = rw (a, q, s) (ap (λ (k : ℕ). Write k (c .size)) (omega arith))
+  touch-len : (c : Cursor) → c .envelope ≡ envelopeAt (g .area) (g .pool) Command (h .counts .send)
+      → sendAsks (g .bits) (withSender h (Sending H.Length c)) H.Length c ≡ Write (addr g (envWord Command (h .counts .send) 0)) (c .size)
+  unfolding sendAsks
+  touch-len c e = rw e (ap (λ (k : ℕ). Write k (c .size)) (omega arith))
 
-  touch-head : (c : Cursor) → h .area ≡ g .area → h .pool ≡ g .pool → c .slot ≡ h .counts .send
-      → sendTouch (g .bits) (withSender h (Sending H.Header c)) H.Header c ≡ Write (addr g (envWord Command (h .counts .send) 2)) 0
-  unfolding sendTouch
-  touch-head c a q s = rw (a, q, s)
+  touch-head : (c : Cursor) → c .envelope ≡ envelopeAt (g .area) (g .pool) Command (h .counts .send)
+      → sendAsks (g .bits) (withSender h (Sending H.Header c)) H.Header c ≡ Write (addr g (envWord Command (h .counts .send) 2)) 0
+  unfolding sendAsks
+  touch-head c e = rw e
 
-  touch-text : (c : Cursor) → h .area ≡ g .area → h .pool ≡ g .pool → c .slot ≡ h .counts .send
-      → sendTouch (g .bits) (withSender h (Sending H.Text c)) H.Text c ≡ Write (addr g (envWord Command (h .counts .send) (4 + 2 * c .at))) (wordOf (h .outgoing) (c .size) (c .at))
-  unfolding sendTouch
-  touch-text c a q s = rw (a, q, s) (ap (λ (k : ℕ). Write k (wordOf (h .outgoing) (c .size) (c .at))) (omega arith))
+  touch-text : (c : Cursor) → c .envelope ≡ envelopeAt (g .area) (g .pool) Command (h .counts .send)
+      → sendAsks (g .bits) (withSender h (Sending H.Text c)) H.Text c ≡ Write (addr g (envWord Command (h .counts .send) (4 + 2 * c .at))) (wordOf (h .outgoing) (c .size) (c .at))
+  unfolding sendAsks
+  touch-text c e = rw e (ap (λ (k : ℕ). Write k (wordOf (h .outgoing) (c .size) (c .at))) (omega arith))
 
-  touch-low : (c : Cursor) → h .area ≡ g .area → h .pool ≡ g .pool → c .slot ≡ h .counts .send
-      → sendTouch (g .bits) (withSender h (Sending H.Low c)) H.Low c
+  touch-low : (c : Cursor) → h .area ≡ g .area → c .envelope ≡ envelopeAt (g .area) (g .pool) Command (h .counts .send) → c .slot ≡ h .counts .send
+      → sendAsks (g .bits) (withSender h (Sending H.Closing c)) H.Closing c
       ≡ Write (addr g (slotWord Command (h .counts .send) 0)) (lowWord (envelopeAt (g .area) (g .pool) Command (h .counts .send) + 4))
-  unfolding sendTouch
-  touch-low c a q s = rw (a, q, s) (ap (λ (k : ℕ). Write k (lowWord (envelopeAt (g .area) (g .pool) Command (h .counts .send) + 4))) (omega arith))
+  unfolding sendAsks
+  touch-low c a e s = rw (a, e, s) (ap (λ (k : ℕ). Write k (lowWord (envelopeAt (g .area) (g .pool) Command (h .counts .send) + 4))) (omega arith))
 
-  touch-give : (c : Cursor) → h .area ≡ g .area → h .pool ≡ g .pool → c .slot ≡ h .counts .send
-      → sendTouch (g .bits) (withSender h (Sending H.Give c)) H.Give c
+  touch-give : (c : Cursor) → h .area ≡ g .area → c .envelope ≡ envelopeAt (g .area) (g .pool) Command (h .counts .send) → c .slot ≡ h .counts .send
+      → sendAsks (g .bits) (withSender h (Sending H.Release c)) H.Release c
       ≡ Write (addr g (slotWord Command (h .counts .send) 2))
-      (highWord true (c .flag) (withAddress (g .bits) (c .high) (envelopeAt (g .area) (g .pool) Command (h .counts .send) + 4)))
-  unfolding sendTouch
-  touch-give c a q s = rw (a, q, s)
+      (highWord true (h .asked .flag) (withAddress (g .bits) (c .high) (envelopeAt (g .area) (g .pool) Command (h .counts .send) + 4)))
+  unfolding sendAsks
+  touch-give c a e s = rw (a, e, s)
 
   -- the invariant after a step of this side
   module _ (snd : Sender) (I : Inv g end b (world (withSender h snd) p m) x) where
@@ -139,7 +141,7 @@ module _ (g : Site) (end : ℕ) (b : Bounds) (S : Setting g end b) (h : Host) (p
           commands = I .commands;
           responses = I .responses;
           send = new;
-          take = take-frame g (withSender h snd) (withSender h snd′) x x (h .taker) refl refl refl (omega arith) (λ k. refl) (I .take);
+          take = take-frame g (withSender h snd) (withSender h snd′) x x (h .taker) refl refl refl refl (omega arith) (λ k. refl) (I .take);
           fetch = I .fetch;
           post = I .post;
           sum = I .sum;
@@ -156,9 +158,9 @@ module _ (g : Site) (end : ℕ) (b : Bounds) (S : Setting g end b) (h : Host) (p
           commands = quiet-giver g end F m (I .size) Command (h .counts .send) (p .counts .fetch) (x .sent) (x .fetched) (x .fetched) (I .commands) o v room l;
           responses = quiet-env g end F m (I .size) Response (p .counts .post) (h .counts .take) (x .posted) (x .taken) _ (I .responses) Command (h .counts .send) o v (λ s. rings) (here, l);
           send = new;
-          take = take-frame g (withSender h snd) (withSender h snd′) x x (h .taker) refl refl refl (omega arith) (λ k. refl) (I .take);
+          take = take-frame g (withSender h snd) (withSender h snd′) x x (h .taker) refl refl refl refl (omega arith) (λ k. refl) (I .take);
           fetch = I .fetch;
-          post = post-frame g (view g m) (view g (withWord (g .bits) m (addr g (envWord Command (h .counts .send) o)) v)) p p x x (p .poster) refl refl refl (omega arith) refl refl (omega arith)
+          post = post-frame g (view g m) (view g (withWord (g .bits) m (addr g (envWord Command (h .counts .send) o)) v)) p p x x (p .poster) refl refl refl refl (omega arith) refl refl (omega arith)
               (λ r k u. kept g end F m (I .size) (envWord Command (h .counts .send) o) (envWord Response (p .counts .post) k) v
               (envs-far g end F Command (h .counts .send) o Response (p .counts .post) k (here, l) (there, u) rings))
               (I .post);
@@ -185,14 +187,14 @@ module _ (g : Site) (end : ℕ) (b : Bounds) (S : Setting g end b) (h : Host) (p
 
     -- a word of the own slot was written, the command ring being what it then is
     with-slot : (h′ : Host) (x′ : Past) (o v : ℕ) → o ≤ 2 → h′ .area ≡ h .area → h′ .pool ≡ h .pool → h′ .shake ≡ h .shake → h′ .ready ≡ h .ready
-        → h′ .counts .take ≡ h .counts .take → h′ .taker ≡ h .taker → h′ .incoming ≡ h .incoming
+        → h′ .counts .take ≡ h .counts .take → h′ .taker ≡ h .taker → h′ .incoming ≡ h .incoming → h′ .credits ≡ h .credits
         → x′ .fetched ≡ x .fetched → x′ .posted ≡ x .posted → x′ .taken ≡ x .taken → x′ .posting ≡ x .posting → x′ .holding ≡ x .holding
         → length (x .sent) ≤ length (x′ .sent) → (x .fetched < length (x .sent) → getD (x .sent) (x .fetched) blank ≡ getD (x′ .sent) (x′ .fetched) blank)
         → RingInv g (view g (withWord (g .bits) m (addr g (slotWord Command (h .counts .send) o)) v)) Command (h′ .counts .send) (p .counts .fetch) (x′ .sent) (x′ .fetched) (x′ .fetched)
         → SendInv g (view g (withWord (g .bits) m (addr g (slotWord Command (h .counts .send) o)) v)) h′ x′ (h′ .sender)
         → h′ .counts .account + (length (drop (x′ .fetched) (x′ .sent)) + p .counts .unanswered) + creditsIn (drop (x′ .taken) (x′ .posted)) + p .counts .owed ≡ b .limit
         → Inv g end b (world h′ p (withWord (g .bits) m (addr g (slotWord Command (h .counts .send) o)) v)) x′
-    with-slot h′ x′ o v l a q sh rd ti tk inc fe po ta pg ho more nx ring new sum′ =
+    with-slot h′ x′ o v l a q sh rd ti tk inc cre fe po ta pg ho more nx ring new sum′ =
         record {
           agreed =
               record {
@@ -209,9 +211,9 @@ module _ (g : Site) (end : ℕ) (b : Bounds) (S : Setting g end b) (h : Host) (p
           responses = rw (ti, tk, po, ta)
               (quiet-slot g end F m (I .size) Response (p .counts .post) (h .counts .take) (x .posted) (x .taken) _ (I .responses) Command (h .counts .send) o v (λ s. rings) (here, l));
           send = new;
-          take = subst (λ (y : Taker). TakeInv g h′ x′ y) (sym tk) (take-frame g (withSender h snd) h′ x x′ (h .taker) (sym ti) (sym inc) (sym ta) (rw po (omega arith)) (λ k. ap (λ (y : List Entry). getD y (x .taken) blank) (sym po) ∙ ap (λ (y : ℕ). getD (x′ .posted) y blank) (sym ta)) (I .take));
+          take = subst (λ (y : Taker). TakeInv g h′ x′ y) (sym tk) (take-frame g (withSender h snd) h′ x x′ (h .taker) (sym ti) (sym inc) (sym cre) (sym ta) (rw po (omega arith)) (λ k. ap (λ (y : List Entry). getD y (x .taken) blank) (sym po) ∙ ap (λ (y : ℕ). getD (x′ .posted) y blank) (sym ta)) (I .take));
           fetch = fetch-frame g p p x x′ (p .fetcher) refl refl (sym ho) (sym fe) more nx (I .fetch);
-          post = post-frame g (view g m) (view g (withWord (g .bits) m (addr g (slotWord Command (h .counts .send) o)) v)) p p x x′ (p .poster) refl refl refl (omega arith) (sym pg) (sym po) (omega (arith, ta))
+          post = post-frame g (view g m) (view g (withWord (g .bits) m (addr g (slotWord Command (h .counts .send) o)) v)) p p x x′ (p .poster) refl refl refl refl (omega arith) (sym pg) (sym po) (omega (arith, ta))
               (λ r k u. kept g end F m (I .size) (slotWord Command (h .counts .send) o) (envWord Response (p .counts .post) k) v
               (slot-env g end F Command (h .counts .send) o Response (p .counts .post) k (here, l) (there, u)))
               (I .post);
@@ -221,7 +223,7 @@ module _ (g : Site) (end : ℕ) (b : Bounds) (S : Setting g end b) (h : Host) (p
   -- the side's stages
   going-sim : (snd snd′ : Sender) (t : List ℕ) (m′ : Memory) (d : Did) → Rattle.fact_traffic.specs.Invariant.sendJob (x .sending) snd ≡ Rattle.fact_traffic.specs.Play.waiting (sends (x .sending))
       → Rattle.fact_traffic.specs.Invariant.sendJob (x .sending) snd′ ≡ Rattle.fact_traffic.specs.Play.waiting (sends (x .sending))
-      → d ≡ byHost (world (withSender h snd) p m) (with-memory (HostState.onward (withSender h snd′)) m′)
+      → d ≡ byHost (world (withSender h snd) p m) (with-memory (onward (withSender h snd′)) m′)
       → Inv g end b (world (withSender h snd′) p m′) x
       → Sim g end b stepSend (world (withSender h snd) p m) x d
   going-sim snd snd′ t m′ d j j′ e I′ =
@@ -234,8 +236,8 @@ module _ (g : Site) (end : ℕ) (b : Bounds) (S : Setting g end b) (h : Host) (p
       record { moment = now; past = x; inv = I; same = refl; ran = λ l r. r; calm = refl; timed = λ k j u v. refl; fetch-counted = λ k u. u; post-counted = λ k u. u }
 
   -- the own slot's high word is read
-  look : (c : Cursor) → Inv g end b (world (withSender h (Sending H.Look c)) p m) x
-      → Sim g end b stepSend (world (withSender h (Sending H.Look c)) p m) x (byHost (world (withSender h (Sending H.Look c)) p m) (sendStep (g .bits) (withSender h (Sending H.Look c)) m))
+  look : (c : Cursor) → Inv g end b (world (withSender h (Sending H.High c)) p m) x
+      → Sim g end b stepSend (world (withSender h (Sending H.High c)) p m) x (byHost (world (withSender h (Sending H.High c)) p m) (sendStep (g .bits) (withSender h (Sending H.High c)) m))
   look c I =
       elim (same-or-not (h .counts .account) 0) [
         | inl z ↦ broke z
@@ -243,21 +245,21 @@ module _ (g : Site) (end : ℕ) (b : Bounds) (S : Setting g end b) (h : Host) (p
       ]
     where
       w : World
-      w = world (withSender h (Sending H.Look c)) p m
+      w = world (withSender h (Sending H.High c)) p m
 
       j : c .slot ≡ h .counts .send
       j = I .send .slot
 
       valid : c .slot < slots (g .area) Command
-      valid = rw j (here (Sending H.Look c) I)
+      valid = rw j (here (Sending H.High c) I)
 
       after-refusal : Inv g end b (world (withSender h NoSend) p m) x
-      after-refusal = with-send (Sending H.Look c) I NoSend tt
+      after-refusal = with-send (Sending H.High c) I NoSend tt
 
-      broke : h .counts .account ≡ 0 → Sim g end b stepSend w x (byHost w (sendStep (g .bits) (withSender h (Sending H.Look c)) m))
+      broke : h .counts .account ≡ 0 → Sim g end b stepSend w x (byHost w (sendStep (g .bits) (withSender h (Sending H.High c)) m))
       broke z =
           sim-of g end b stepSend w x (byHost w)
-          (send-at (g .bits) h m H.Look c Nothing 0 (ready (Sending H.Look c) I) (touch-none c z) refl ∙ look-5 (g .bits) h m c 0 z)
+          (send-at (g .bits) h m H.High c Nothing 0 (ready (Sending H.High c) I) (touch-none c z) refl ∙ look-5 (g .bits) h m c 0 z)
           record {
             moment = now;
             past = x;
@@ -270,12 +272,12 @@ module _ (g : Site) (end : ℕ) (b : Bounds) (S : Setting g end b) (h : Host) (p
             post-counted = λ k u. u;
           }
 
-      step : (h .counts .account ≡ 0 → ⊥) → sendStep (g .bits) (withSender h (Sending H.Look c)) m ≡ with-memory (sendLook (withSender h (Sending H.Look c)) c (view g m (slotWord Command (c .slot) 2))) m
+      step : (h .counts .account ≡ 0 → ⊥) → sendStep (g .bits) (withSender h (Sending H.High c)) m ≡ with-memory (sendHigh (withSender h (Sending H.High c)) c (view g m (slotWord Command (c .slot) 2))) m
       step z =
-          send-at (g .bits) h m H.Look c (Read (addr g (slotWord Command (c .slot) 2))) (view g m (slotWord Command (c .slot) 2)) (ready (Sending H.Look c) I)
+          send-at (g .bits) h m H.High c (Read (addr g (slotWord Command (c .slot) 2))) (view g m (slotWord Command (c .slot) 2)) (ready (Sending H.High c) I)
           (touch-look c (I .agreed .host-area) z) (reads g end F m (I .size) (slotWord Command (c .slot) 2) (valid, omega arith))
 
-      by : (o : Bool) → isSet owner (view g m (slotWord Command (c .slot) 2)) ≡ o → (h .counts .account ≡ 0 → ⊥) → Sim g end b stepSend w x (byHost w (sendStep (g .bits) (withSender h (Sending H.Look c)) m))
+      by : (o : Bool) → isSet owner (view g m (slotWord Command (c .slot) 2)) ≡ o → (h .counts .account ≡ 0 → ⊥) → Sim g end b stepSend w x (byHost w (sendStep (g .bits) (withSender h (Sending H.High c)) m))
       by true e z =
           let full : length (x .sent) ≡ x .fetched + slots (g .area) Command =
           giver-full g Command (view g m) (view g m) (h .counts .send) (p .counts .fetch) (x .sent) (x .fetched) (x .fetched) (I .commands) (rw (← j) e) in
@@ -300,9 +302,10 @@ module _ (g : Site) (end : ℕ) (b : Bounds) (S : Setting g end b) (h : Host) (p
             moment = later;
             past = x;
             inv =
-                with-send (Sending H.Look c) I (Sending H.Length (withHigh c (view g m (slotWord Command (c .slot) 2))))
+                with-send (Sending H.High c) I (Sending H.Length (withHigh c (view g m (slotWord Command (c .slot) 2))))
                 record {
                   slot = j;
+                  envelope = I .send .envelope;
                   size = I .send .size;
                   short = I .send .short;
                   bytes = I .send .bytes;
@@ -323,7 +326,7 @@ module _ (g : Site) (end : ℕ) (b : Bounds) (S : Setting g end b) (h : Host) (p
   length-step c I =
       sim-of g end b stepSend (world (withSender h (Sending H.Length c)) p m) x (byHost (world (withSender h (Sending H.Length c)) p m))
       (send-at (g .bits) h m H.Length c (Write (addr g (envWord Command (h .counts .send) 0)) (c .size)) (c .size) (ready (Sending H.Length c) I)
-      (touch-len c (I .agreed .host-area) (I .agreed .host-pool) (I .send .slot)) (writes g end F m (I .size) (envWord Command (h .counts .send) 0) (c .size) (here (Sending H.Length c) I, omega arith)))
+      (touch-len c (I .send .envelope)) (writes g end F m (I .size) (envWord Command (h .counts .send) 0) (c .size) (here (Sending H.Length c) I, omega arith)))
       record {
         moment = later;
         past = x;
@@ -331,6 +334,7 @@ module _ (g : Site) (end : ℕ) (b : Bounds) (S : Setting g end b) (h : Host) (p
             with-env (Sending H.Length c) I (Sending H.Header c) 0 (c .size) (omega arith) (I .send .progress .room)
             record {
               slot = I .send .slot;
+              envelope = I .send .envelope;
               size = I .send .size;
               short = I .send .short;
               bytes = I .send .bytes;
@@ -350,19 +354,20 @@ module _ (g : Site) (end : ℕ) (b : Bounds) (S : Setting g end b) (h : Host) (p
       → k ≤ wordsOf (length (x .sending))
       → Written (view g (withWord (g .bits) m (addr g (envWord Command (h .counts .send) o)) v)) Command (h .counts .send) (x .sending) 0 k
       → sendStep (g .bits) (withSender h (Sending s c)) m
-      ≡ with-memory (HostState.onward (withSender h (sendOn c k))) (withWord (g .bits) m (addr g (envWord Command (h .counts .send) o)) v)
+      ≡ with-memory (onward (withSender h (textOrClosing c k))) (withWord (g .bits) m (addr g (envWord Command (h .counts .send) o)) v)
       → Sim g end b stepSend (world (withSender h (Sending s c)) p m) x (byHost (world (withSender h (Sending s c)) p m) (sendStep (g .bits) (withSender h (Sending s c)) m))
   on-sim s c k o v l I M u W e =
       elim (lt-or-ge k (wordsOf (c .size))) [
         | inl more ↦
             sim-of g end b stepSend (world (withSender h (Sending s c)) p m) x (byHost (world (withSender h (Sending s c)) p m))
-            (e ∙ ap (λ (y : Sender). with-memory (HostState.onward (withSender h y)) (withWord (g .bits) m (addr g (envWord Command (h .counts .send) o)) v)) (on-text c k more))
+            (e ∙ ap (λ (y : Sender). with-memory (onward (withSender h y)) (withWord (g .bits) m (addr g (envWord Command (h .counts .send) o)) v)) (on-text c k more))
             record {
               moment = later;
               past = x;
               inv = with-env (Sending s c) I (Sending H.Text (withAt c k)) o v l (M .room)
                   record {
                     slot = I .send .slot;
+                    envelope = I .send .envelope;
                     size = I .send .size;
                     short = I .send .short;
                     bytes = I .send .bytes;
@@ -378,13 +383,14 @@ module _ (g : Site) (end : ℕ) (b : Bounds) (S : Setting g end b) (h : Host) (p
             }
         | inr none ↦
             sim-of g end b stepSend (world (withSender h (Sending s c)) p m) x (byHost (world (withSender h (Sending s c)) p m))
-            (e ∙ ap (λ (y : Sender). with-memory (HostState.onward (withSender h y)) (withWord (g .bits) m (addr g (envWord Command (h .counts .send) o)) v)) (on-low c k none))
+            (e ∙ ap (λ (y : Sender). with-memory (onward (withSender h y)) (withWord (g .bits) m (addr g (envWord Command (h .counts .send) o)) v)) (on-low c k none))
             record {
               moment = later;
               past = x;
-              inv = with-env (Sending s c) I (Sending H.Low c) o v l (M .room)
+              inv = with-env (Sending s c) I (Sending H.Closing c) o v l (M .room)
                   record {
                     slot = I .send .slot;
+                    envelope = I .send .envelope;
                     size = I .send .size;
                     short = I .send .short;
                     bytes = I .send .bytes;
@@ -409,7 +415,7 @@ module _ (g : Site) (end : ℕ) (b : Bounds) (S : Setting g end b) (h : Host) (p
       on-sim H.Header c 0 2 0 (omega arith) I (I .send .progress .0) (omega arith)
       (put-head g end F m (I .size) Command (h .counts .send) (here (Sending H.Header c) I) (x .sending) (I .send .short) 0 0 refl (rw (← I .send .slot) (I .send .progress .1)))
       (send-at (g .bits) h m H.Header c (Write (addr g (envWord Command (h .counts .send) 2)) 0) 0 (ready (Sending H.Header c) I)
-      (touch-head c (I .agreed .host-area) (I .agreed .host-pool) (I .send .slot)) (writes g end F m (I .size) (envWord Command (h .counts .send) 2) 0 (here (Sending H.Header c) I, omega arith)))
+      (touch-head c (I .send .envelope)) (writes g end F m (I .size) (envWord Command (h .counts .send) 2) 0 (here (Sending H.Header c) I, omega arith)))
 
   text-step : (c : Cursor) → Inv g end b (world (withSender h (Sending H.Text c)) p m) x
       → Sim g end b stepSend (world (withSender h (Sending H.Text c)) p m) x (byHost (world (withSender h (Sending H.Text c)) p m) (sendStep (g .bits) (withSender h (Sending H.Text c)) m))
@@ -420,27 +426,28 @@ module _ (g : Site) (end : ℕ) (b : Bounds) (S : Setting g end b) (h : Host) (p
       (put-word g end F m (I .size) Command (h .counts .send) (here (Sending H.Text c) I) (x .sending) (I .send .short) 0 (c .at) v (I .send .bytes) few
       (ap (λ (y : List ℕ). wordOf y (c .size) (c .at)) (I .send .text) ∙ ap (λ (y : ℕ). wordOf (padded (x .sending)) y (c .at)) (I .send .size)) (rw (← I .send .slot) (I .send .progress .1 .0)))
       (send-at (g .bits) h m H.Text c (Write (addr g (envWord Command (h .counts .send) (4 + 2 * c .at))) v) v (ready (Sending H.Text c) I)
-      (touch-text c (I .agreed .host-area) (I .agreed .host-pool) (I .send .slot))
+      (touch-text c (I .send .envelope))
       (writes g end F m (I .size) (envWord Command (h .counts .send) (4 + 2 * c .at)) v (here (Sending H.Text c) I, omega (arith, few, I .send .short))))
 
   -- the low word, with the pool's address
-  low-step : (c : Cursor) → Inv g end b (world (withSender h (Sending H.Low c)) p m) x
-      → Sim g end b stepSend (world (withSender h (Sending H.Low c)) p m) x (byHost (world (withSender h (Sending H.Low c)) p m) (sendStep (g .bits) (withSender h (Sending H.Low c)) m))
+  low-step : (c : Cursor) → Inv g end b (world (withSender h (Sending H.Closing c)) p m) x
+      → Sim g end b stepSend (world (withSender h (Sending H.Closing c)) p m) x (byHost (world (withSender h (Sending H.Closing c)) p m) (sendStep (g .bits) (withSender h (Sending H.Closing c)) m))
   low-step c I =
       let i : ℕ = h .counts .send in
       let v : ℕ = lowWord (envelopeAt (g .area) (g .pool) Command i + 4) in
-      let at : i < slots (g .area) Command = here (Sending H.Low c) I in
-      sim-of g end b stepSend (world (withSender h (Sending H.Low c)) p m) x (byHost (world (withSender h (Sending H.Low c)) p m))
-      (send-at (g .bits) h m H.Low c (Write (addr g (slotWord Command i 0)) v) v (ready (Sending H.Low c) I)
-      (touch-low c (I .agreed .host-area) (I .agreed .host-pool) (I .send .slot)) (writes g end F m (I .size) (slotWord Command i 0) v (at, omega arith)))
+      let at : i < slots (g .area) Command = here (Sending H.Closing c) I in
+      sim-of g end b stepSend (world (withSender h (Sending H.Closing c)) p m) x (byHost (world (withSender h (Sending H.Closing c)) p m))
+      (send-at (g .bits) h m H.Closing c (Write (addr g (slotWord Command i 0)) v) v (ready (Sending H.Closing c) I)
+      (touch-low c (I .agreed .host-area) (I .send .envelope) (I .send .slot)) (writes g end F m (I .size) (slotWord Command i 0) v (at, omega arith)))
       record {
         moment = later;
         past = x;
         inv =
-            with-slot (Sending H.Low c) I (withSender h (Sending H.Give c)) x 0 v (omega arith) refl refl refl refl refl refl refl refl refl refl refl refl (omega arith) (λ k. refl)
-            (low-same (Sending H.Low c) I v refl)
+            with-slot (Sending H.Closing c) I (withSender h (Sending H.Release c)) x 0 v (omega arith) refl refl refl refl refl refl refl refl refl refl refl refl refl (omega arith) (λ k. refl)
+            (low-same (Sending H.Closing c) I v refl)
             record {
               slot = I .send .slot;
+              envelope = I .send .envelope;
               size = I .send .size;
               short = I .send .short;
               bytes = I .send .bytes;
@@ -479,18 +486,18 @@ module _ (g : Site) (end : ℕ) (b : Bounds) (S : Setting g end b) (h : Host) (p
       }
 
   give-is : (c : Cursor) (k : Memory) → h .area ≡ g .area → c .slot ≡ h .counts .send
-      → with-memory (sendSeen (withSender h (Sending H.Give c)) H.Give c 0) k ≡ with-memory (record { told = told done false; state = given }) k
+      → with-memory (sendFinds (withSender h (Sending H.Release c)) H.Release c 0) k ≡ with-memory (record { told = told done false; state = given }) k
   unfolding sent nextOf
   give-is c k a s = rw (a, s)
 
-  give-step : (c : Cursor) → Inv g end b (world (withSender h (Sending H.Give c)) p m) x
-      → Sim g end b stepSend (world (withSender h (Sending H.Give c)) p m) x (byHost (world (withSender h (Sending H.Give c)) p m) (sendStep (g .bits) (withSender h (Sending H.Give c)) m))
+  give-step : (c : Cursor) → Inv g end b (world (withSender h (Sending H.Release c)) p m) x
+      → Sim g end b stepSend (world (withSender h (Sending H.Release c)) p m) x (byHost (world (withSender h (Sending H.Release c)) p m) (sendStep (g .bits) (withSender h (Sending H.Release c)) m))
   give-step c I =
       let i : ℕ = h .counts .send in
-      let w : World = world (withSender h (Sending H.Give c)) p m in
+      let w : World = world (withSender h (Sending H.Release c)) p m in
       let a : ℕ = envelopeAt (g .area) (g .pool) Command i + 4 in
-      let v : ℕ = highWord true (c .flag) (withAddress (g .bits) (c .high) a) in
-      let at : i < slots (g .area) Command = here (Sending H.Give c) I in
+      let v : ℕ = highWord true (h .asked .flag) (withAddress (g .bits) (c .high) a) in
+      let at : i < slots (g .area) Command = here (Sending H.Release c) I in
       let m′ : Memory = withWord (g .bits) m (addr g (slotWord Command i 2)) v in
       let M : MayGive g (h .counts .account) x = I .send .progress .0 in
       let none : (h .counts .account ≡ 0 → ⊥) = omega (arith, M .credit) in
@@ -500,22 +507,22 @@ module _ (g : Site) (end : ℕ) (b : Bounds) (S : Setting g end b) (h : Host) (p
       let done-it = send-ok b (plainOf w x) (x .sending) none room in
       let more : drop (x .fetched) (x .sent ++ (entry (x .sending) 0 ∷ [])) ≡ drop (x .fetched) (x .sent) ++ (entry (x .sending) 0 ∷ []) = left-more (x .sent) (x .fetched) (entry (x .sending) 0) le in
       sim-of g end b stepSend w x (byHost w)
-      (send-at (g .bits) h m H.Give c (Write (addr g (slotWord Command i 2)) v) v (ready (Sending H.Give c) I)
-      (touch-give c (I .agreed .host-area) (I .agreed .host-pool) (I .send .slot)) (writes g end F m (I .size) (slotWord Command i 2) v (at, omega arith))
+      (send-at (g .bits) h m H.Release c (Write (addr g (slotWord Command i 2)) v) v (ready (Sending H.Release c) I)
+      (touch-give c (I .agreed .host-area) (I .send .envelope) (I .send .slot)) (writes g end F m (I .size) (slotWord Command i 2) v (at, omega arith))
       ∙ give-is c m′ (I .agreed .host-area) (I .send .slot))
       record {
         moment = now;
         past = one-more;
         inv =
-            with-slot (Sending H.Give c) I given one-more 2 v (omega arith) refl refl refl refl refl refl refl refl refl refl refl refl (simp length-append (omega arith))
+            with-slot (Sending H.Release c) I given one-more 2 v (omega arith) refl refl refl refl refl refl refl refl refl refl refl refl refl (simp length-append (omega arith))
             (λ k. next-kept (x .sent) (entry (x .sending) 0) (x .fetched) k)
             (publish g Command (view g m) (view g m′) i (p .counts .fetch) (x .sent) (x .fetched) (x .fetched) R v i
-            (stored g end F m (I .size) (slotWord Command i 2) v (at, omega arith) (high-lt true (c .flag) (withAddress (g .bits) (c .high) a)))
-            (high-upper (g .bits) true (c .flag) (withAddress (g .bits) (c .high) a) (S .narrow) ∙ with-upper (g .bits) (c .high) a ∙ upper-small (g .bits) a (S .wide) (low i at))
+            (stored g end F m (I .size) (slotWord Command i 2) v (at, omega arith) (high-lt true (h .asked .flag) (withAddress (g .bits) (c .high) a)))
+            (high-upper (g .bits) true (h .asked .flag) (withAddress (g .bits) (c .high) a) (S .narrow) ∙ with-upper (g .bits) (c .high) a ∙ upper-small (g .bits) a (S .wide) (low i at))
             (λ s l d. kept g end F m (I .size) (slotWord Command i 2) (slotWord Command s 2) v (slots-far g end F Command i 2 Command s 2 (at, omega arith) (l, omega arith) (slots-apart d)))
             (λ s l. lows s l)
             (λ s l o u. kept g end F m (I .size) (slotWord Command i 2) (envWord Command s o) v (slot-env g end F Command i 2 Command s o (at, omega arith) (l, u)))
-            (entry (x .sending) 0) refl (high-owner true (c .flag) (withAddress (g .bits) (c .high) a)) (M .room)
+            (entry (x .sending) 0) refl (high-owner true (h .asked .flag) (withAddress (g .bits) (c .high) a)) (M .room)
             (letter (view g m) Command i (x .sending) 0 (I .send .short) (I .send .bytes) (omega arith) (rw (← I .send .slot) (I .send .progress .1))))
             tt
             (rw more (simp length-append (omega (arith, I .sum, M .credit))));
@@ -532,10 +539,10 @@ module _ (g : Site) (end : ℕ) (b : Bounds) (S : Setting g end b) (h : Host) (p
       low i l = omega (arith, F .envelope-inside Command i l, S .end-low)
 
       lows : (s : ℕ) → s < slots (g .area) Command
-          → view g (withWord (g .bits) m (addr g (slotWord Command (h .counts .send) 2)) (highWord true (c .flag) (withAddress (g .bits) (c .high) (envelopeAt (g .area) (g .pool) Command (h .counts .send) + 4)))) (slotWord Command s 0)
+          → view g (withWord (g .bits) m (addr g (slotWord Command (h .counts .send) 2)) (highWord true (h .asked .flag) (withAddress (g .bits) (c .high) (envelopeAt (g .area) (g .pool) Command (h .counts .send) + 4)))) (slotWord Command s 0)
           ≡ view g m (slotWord Command s 0)
       lows s l =
-          let at : h .counts .send < slots (g .area) Command = here (Sending H.Give c) I in
+          let at : h .counts .send < slots (g .area) Command = here (Sending H.Release c) I in
           elim (same-or-not (h .counts .send) s) [
             | inl q ↦ rw (← q) (kept g end F m (I .size) (slotWord Command (h .counts .send) 2) (slotWord Command (h .counts .send) 0) _ (far-sym g (slotWord Command (h .counts .send) 0) (slotWord Command (h .counts .send) 2) (words-far g end F Command (h .counts .send) 0 2 (omega arith))))
             | inr d ↦ kept g end F m (I .size) (slotWord Command (h .counts .send) 2) (slotWord Command s 0) _ (slots-far g end F Command (h .counts .send) 2 Command s 0 (at, omega arith) (l, omega arith) (slots-apart d))
@@ -545,9 +552,9 @@ module _ (g : Site) (end : ℕ) (b : Bounds) (S : Setting g end b) (h : Host) (p
   pub send-sim : (snd : Sender) → Inv g end b (world (withSender h snd) p m) x
       → Sim g end b stepSend (world (withSender h snd) p m) x (byHost (world (withSender h snd) p m) (sendStep (g .bits) (withSender h snd) m))
   send-sim NoSend I = no-send I
-  send-sim (Sending H.Look c) I = look c I
+  send-sim (Sending H.High c) I = look c I
   send-sim (Sending H.Length c) I = length-step c I
   send-sim (Sending H.Header c) I = header-step c I
   send-sim (Sending H.Text c) I = text-step c I
-  send-sim (Sending H.Low c) I = low-step c I
-  send-sim (Sending H.Give c) I = give-step c I
+  send-sim (Sending H.Closing c) I = low-step c I
+  send-sim (Sending H.Release c) I = give-step c I

@@ -8,13 +8,11 @@ use borrow.Author.Tests.{eq-eqb, ne-eqb}
 use Rattle.fact_plain.specs.Plain.{Bounds, Plain, Result}
 use Rattle.fact_plain.specs.Log.{Op, Allowed, does, noted, Log, Ran, then}
 use Rattle.base_texts.specs.Texts.{wordsOf}
-use Rattle.port_state.specs.declared.state.Cursor.{Cursor}
+use Rattle.base_side.specs.declared.Cursor.{Cursor}
 use Rattle.port_state.specs.declared.state.Stage.{Stage}
 use Rattle.port_state.specs.declared.state.Stage.the-variants as S
-use Rattle.port_state.specs.declared.state.Fetcher.{Fetcher}
-use Rattle.port_state.specs.declared.state.Fetcher.the-variants.{NoFetch, Fetching, FetchTail}
-use Rattle.port_state.specs.declared.state.Poster.{Poster}
-use Rattle.port_state.specs.declared.state.Poster.the-variants.{NoPost, Posting, PostTail}
+use Rattle.port_state.specs.declared.state.Side.{Side as Fetcher, Side as Poster}
+use Rattle.port_state.specs.declared.state.Side.the-variants.{Idle as NoFetch, At as Fetching, Tail as FetchTail, Idle as NoPost, At as Posting, Tail as PostTail}
 use Rattle.fact_traffic.specs.Places.{Site}
 use Rattle.fact_traffic.specs.World.{World, Ev, Did}
 use Rattle.fact_traffic.specs.Play.{Moment, play, played, logged}

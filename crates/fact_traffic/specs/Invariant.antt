@@ -16,28 +16,21 @@ use Rattle.fact_layout.specs.Facts.{AreaFacts}
 use Rattle.fact_plain.specs.Plain.{Entry, Bounds, Plain, done, got}
 use Rattle.fact_plain.specs.Log.{sends, fetches, posts, takes, creditsIn}
 use Rattle.port_state.specs.Post.{creditsOf}
-use Rattle.port_state.specs.declared.state.Cursor as PortCursor
+use Rattle.base_side.specs.declared.Cursor.{Cursor}
 use Rattle.port_state.specs.declared.state.Stage.{Stage}
 use Rattle.port_state.specs.declared.state.Stage.the-variants as S
-use Rattle.port_state.specs.declared.state.Fetcher.{Fetcher}
-use Rattle.port_state.specs.declared.state.Fetcher.the-variants.{NoFetch, Fetching, FetchTail}
-use Rattle.port_state.specs.declared.state.Poster.{Poster}
-use Rattle.port_state.specs.declared.state.Poster.the-variants.{NoPost, Posting, PostTail}
+use Rattle.port_state.specs.declared.state.Side.{Side as Fetcher, Side as Poster}
+use Rattle.port_state.specs.declared.state.Side.the-variants.{Idle as NoFetch, At as Fetching, Tail as FetchTail, Idle as NoPost, At as Posting, Tail as PostTail}
 use Rattle.port_state.specs.declared.state.Made.{Made}
 use Rattle.port_state.specs.declared.state.Phase.{Phase}
 use Rattle.port_state.specs.declared.state.Phase.the-variants.{Running}
 use Rattle.port_state.specs.declared.state.Port.{Port}
-use Rattle.host_state.specs.declared.state.Cursor as HostCursor
 use Rattle.host_state.specs.declared.state.Shake.{Shake}
 use Rattle.host_state.specs.declared.state.Shake.the-variants.{Finished}
-use Rattle.host_state.specs.declared.state.SendStage.{SendStage}
-use Rattle.host_state.specs.declared.state.SendStage.the-variants as H
-use Rattle.host_state.specs.declared.state.TakeStage.{TakeStage}
-use Rattle.host_state.specs.declared.state.TakeStage.the-variants as T
-use Rattle.host_state.specs.declared.state.Sender.{Sender}
-use Rattle.host_state.specs.declared.state.Sender.the-variants.{NoSend, Sending}
-use Rattle.host_state.specs.declared.state.Taker.{Taker}
-use Rattle.host_state.specs.declared.state.Taker.the-variants.{NoTake, Taking}
+use Rattle.host_state.specs.declared.state.Stage.{Stage as SendStage, Stage as TakeStage}
+use Rattle.host_state.specs.declared.state.Stage.the-variants as H
+use Rattle.host_state.specs.declared.state.Side.{Side as Sender, Side as Taker}
+use Rattle.host_state.specs.declared.state.Side.the-variants.{Idle as NoSend, At as Sending, Idle as NoTake, At as Taking}
 use Rattle.host_state.specs.declared.state.Host.{Host}
 use Rattle.fact_traffic.specs.Places.{Place, envWord, Site, view}
 use Rattle.fact_traffic.specs.Rings.{blank, RingInv}
@@ -73,17 +66,18 @@ pub record MayGive (g : Site) (account : ℕ) (x : Past) : Type 0 where
   pub credit : 1 ≤ account
   pub room : length (x .sent) < x .fetched + slots (g .area) Command
 
-abbrev pub SendProgress : Site → (Place → ℕ) → Host → Past → SendStage → HostCursor.Cursor → Type 0
-SendProgress g v h x H.Look c = Unit {0}
+abbrev pub SendProgress : Site → (Place → ℕ) → Host → Past → SendStage → Cursor → Type 0
+SendProgress g v h x H.High c = Unit {0}
 SendProgress g v h x H.Length c = MayGive g (h .counts .account) x
 SendProgress g v h x H.Header c = MayGive g (h .counts .account) x × (v (envWord Command (c .slot) 0) ≡ length (x .sending))
 SendProgress g v h x H.Text c =
     MayGive g (h .counts .account) x × (Written v Command (c .slot) (x .sending) 0 (c .at) × (c .at < wordsOf (length (x .sending))))
-SendProgress g v h x H.Low c = MayGive g (h .counts .account) x × Written v Command (c .slot) (x .sending) 0 (wordsOf (length (x .sending)))
-SendProgress g v h x H.Give c = MayGive g (h .counts .account) x × Written v Command (c .slot) (x .sending) 0 (wordsOf (length (x .sending)))
+SendProgress g v h x H.Closing c = MayGive g (h .counts .account) x × Written v Command (c .slot) (x .sending) 0 (wordsOf (length (x .sending)))
+SendProgress g v h x H.Release c = MayGive g (h .counts .account) x × Written v Command (c .slot) (x .sending) 0 (wordsOf (length (x .sending)))
 
-pub record SendOn (g : Site) (v : Place → ℕ) (h : Host) (x : Past) (s : SendStage) (c : HostCursor.Cursor) : Type 0 where
+pub record SendOn (g : Site) (v : Place → ℕ) (h : Host) (x : Past) (s : SendStage) (c : Cursor) : Type 0 where
   pub slot : c .slot ≡ h .counts .send
+  pub envelope : c .envelope ≡ envelopeAt (g .area) (g .pool) Command (h .counts .send)
   pub size : c .size ≡ length (x .sending)
   pub short : length (x .sending) ≤ room
   pub bytes : Bytes (x .sending)
@@ -104,7 +98,7 @@ pub record Found (g : Site) (r : Ring) (slot high : ℕ) (hist : List Entry) (k 
   pub some : k < length hist
   pub upper : of (addressHigh (g .bits)) high ≡ upperOf g r slot
 
-abbrev pub FetchProgress : Site → Port → Past → Stage → PortCursor.Cursor → Type 0
+abbrev pub FetchProgress : Site → Port → Past → Stage → Cursor → Type 0
 FetchProgress g p x S.High c = p .incoming ≡ zeros
 FetchProgress g p x S.Low c = Found g Command (c .slot) (c .high) (x .sent) (x .fetched) × (p .incoming ≡ zeros)
 FetchProgress g p x S.Length c =
@@ -119,11 +113,11 @@ FetchProgress g p x S.Text c =
 FetchProgress g p x S.Release c =
     Found g Command (c .slot) (c .high) (x .sent) (x .fetched) × ((p .incoming ≡ padded (nextCommand x .text)) × (c .size ≡ length (nextCommand x .text)))
 
-pub record FetchOn (g : Site) (p : Port) (x : Past) (s : Stage) (c : PortCursor.Cursor) : Type 0 where
+pub record FetchOn (g : Site) (p : Port) (x : Past) (s : Stage) (c : Cursor) : Type 0 where
   pub slot : c .slot ≡ p .counts .fetch
   pub progress : FetchProgress g p x s c
 
-pub record FetchEnd (g : Site) (p : Port) (x : Past) (c : PortCursor.Cursor) : Type 0 where
+pub record FetchEnd (g : Site) (p : Port) (x : Past) (c : Cursor) : Type 0 where
   pub slot : c .slot < slots (g .area) Command
   pub size : c .size ≡ length (x .holding)
   pub text : p .incoming ≡ padded (x .holding)
@@ -138,7 +132,7 @@ FetchInv g p x (FetchTail s c) = FetchEnd g p x c
 abbrev pub PostRoom : Site → Past → Type 0
 PostRoom g x = length (x .posted) < x .taken + slots (g .area) Response
 
-abbrev pub PostProgress : Site → (Place → ℕ) → Port → Past → Stage → PortCursor.Cursor → Type 0
+abbrev pub PostProgress : Site → (Place → ℕ) → Port → Past → Stage → Cursor → Type 0
 PostProgress g v p x S.High c = Unit {0}
 PostProgress g v p x S.Low c = PostRoom g x × (of (addressHigh (g .bits)) (c .high) ≡ upperOf g Response (c .slot))
 PostProgress g v p x S.Length c =
@@ -151,18 +145,18 @@ PostProgress g v p x S.Text c =
     PostRoom g x
     × ((of (addressHigh (g .bits)) (c .high) ≡ upperOf g Response (c .slot))
     × ((c .envelope ≡ envelopeAt (g .area) (g .pool) Response (c .slot))
-    × (Written v Response (c .slot) (x .posting) (creditsOf p c) (c .at) × (c .at < wordsOf (length (x .posting))))))
+    × (Written v Response (c .slot) (x .posting) (creditsOf p) (c .at) × (c .at < wordsOf (length (x .posting))))))
 PostProgress g v p x S.Release c =
     PostRoom g x
-    × ((of (addressHigh (g .bits)) (c .high) ≡ upperOf g Response (c .slot)) × Written v Response (c .slot) (x .posting) (creditsOf p c) (wordsOf (length (x .posting))))
+    × ((of (addressHigh (g .bits)) (c .high) ≡ upperOf g Response (c .slot)) × Written v Response (c .slot) (x .posting) (creditsOf p) (wordsOf (length (x .posting))))
 
-pub record PostOn (g : Site) (v : Place → ℕ) (p : Port) (x : Past) (s : Stage) (c : PortCursor.Cursor) : Type 0 where
+pub record PostOn (g : Site) (v : Place → ℕ) (p : Port) (x : Past) (s : Stage) (c : Cursor) : Type 0 where
   pub slot : c .slot ≡ p .counts .post
   pub size : c .size ≡ length (x .posting)
   pub short : length (x .posting) ≤ room
   pub bytes : Bytes (x .posting)
   pub text : p .outgoing ≡ padded (x .posting)
-  pub waits : c .answers ≡ true → 1 ≤ p .counts .unanswered
+  pub owed-one : p .asked .answers ≡ true → 1 ≤ p .counts .unanswered
   pub progress : PostProgress g v p x s c
 
 abbrev pub PostInv : Site → (Place → ℕ) → Port → Past → Poster → Type 0
@@ -175,24 +169,25 @@ PostInv g v p x (PostTail s c) = c .slot < slots (g .area) Response
 abbrev pub nextResponse : Past → Entry
 nextResponse x = getD (x .posted) (x .taken) blank
 
-abbrev pub TakeProgress : Site → Host → Past → TakeStage → HostCursor.Cursor → Type 0
-TakeProgress g h x T.Look c = h .incoming ≡ zeros
-TakeProgress g h x T.Length c = Found g Response (c .slot) (c .high) (x .posted) (x .taken) × (h .incoming ≡ zeros)
-TakeProgress g h x T.Header c =
+abbrev pub TakeProgress : Site → Host → Past → TakeStage → Cursor → Type 0
+TakeProgress g h x H.High c = h .incoming ≡ zeros
+TakeProgress g h x H.Length c = Found g Response (c .slot) (c .high) (x .posted) (x .taken) × (h .incoming ≡ zeros)
+TakeProgress g h x H.Header c =
     Found g Response (c .slot) (c .high) (x .posted) (x .taken) × ((h .incoming ≡ zeros) × (c .size ≡ length (nextResponse x .text)))
-TakeProgress g h x T.Text c =
+TakeProgress g h x H.Text c =
     Found g Response (c .slot) (c .high) (x .posted) (x .taken)
     × (Got (h .incoming) (nextResponse x .text) (c .at)
-    × ((c .size ≡ length (nextResponse x .text)) × ((c .credits ≡ nextResponse x .credits) × (c .at < wordsOf (length (nextResponse x .text))))))
-TakeProgress g h x T.Refill c =
+    × ((c .size ≡ length (nextResponse x .text)) × ((h .credits ≡ nextResponse x .credits) × (c .at < wordsOf (length (nextResponse x .text))))))
+TakeProgress g h x H.Closing c =
     Found g Response (c .slot) (c .high) (x .posted) (x .taken)
-    × ((h .incoming ≡ padded (nextResponse x .text)) × ((c .size ≡ length (nextResponse x .text)) × (c .credits ≡ nextResponse x .credits)))
-TakeProgress g h x T.Give c =
+    × ((h .incoming ≡ padded (nextResponse x .text)) × ((c .size ≡ length (nextResponse x .text)) × (h .credits ≡ nextResponse x .credits)))
+TakeProgress g h x H.Release c =
     Found g Response (c .slot) (c .high) (x .posted) (x .taken)
-    × ((h .incoming ≡ padded (nextResponse x .text)) × ((c .size ≡ length (nextResponse x .text)) × (c .credits ≡ nextResponse x .credits)))
+    × ((h .incoming ≡ padded (nextResponse x .text)) × ((c .size ≡ length (nextResponse x .text)) × (h .credits ≡ nextResponse x .credits)))
 
-pub record TakeOn (g : Site) (h : Host) (x : Past) (s : TakeStage) (c : HostCursor.Cursor) : Type 0 where
+pub record TakeOn (g : Site) (h : Host) (x : Past) (s : TakeStage) (c : Cursor) : Type 0 where
   pub slot : c .slot ≡ h .counts .take
+  pub envelope : c .envelope ≡ envelopeAt (g .area) (g .pool) Response (h .counts .take)
   pub progress : TakeProgress g h x s c
 
 abbrev pub TakeInv : Site → Host → Past → Taker → Type 0
@@ -202,12 +197,12 @@ TakeInv g h x (Taking s c) = TakeOn g h x s c
 -- The letters from here on are whole: a take that has refilled the length has spoilt the one that it is about to give back.
 abbrev pub wholeFrom : ℕ → Taker → ℕ
 wholeFrom k NoTake = k
-wholeFrom k (Taking T.Look c) = k
-wholeFrom k (Taking T.Length c) = k
-wholeFrom k (Taking T.Header c) = k
-wholeFrom k (Taking T.Text c) = k
-wholeFrom k (Taking T.Refill c) = k
-wholeFrom k (Taking T.Give c) = suc k
+wholeFrom k (Taking H.High c) = k
+wholeFrom k (Taking H.Length c) = k
+wholeFrom k (Taking H.Header c) = k
+wholeFrom k (Taking H.Text c) = k
+wholeFrom k (Taking H.Closing c) = k
+wholeFrom k (Taking H.Release c) = suc k
 
 ---------------------------------------------------------------- all of it
 
@@ -260,10 +255,10 @@ fetchJob t NoFetch = idle
 fetchJob t (Fetching s c) = waiting fetches
 fetchJob t (FetchTail s c) = over (got t)
 
-abbrev pub postJob : List ℕ → Poster → Job
-postJob t NoPost = idle
-postJob t (Posting s c) = waiting (posts (c .answers) t)
-postJob t (PostTail s c) = over done
+abbrev pub postJob : List ℕ → Bool → Poster → Job
+postJob t answers NoPost = idle
+postJob t answers (Posting s c) = waiting (posts answers t)
+postJob t answers (PostTail s c) = over done
 
 abbrev pub plainOf : World → Past → Plain
 plainOf w x =
@@ -277,4 +272,4 @@ plainOf w x =
 
 abbrev pub playOf : World → Past → Play
 playOf w x =
-    game (plainOf w x) (sendJob (x .sending) (w .host .sender)) (takeJob (w .host .taker)) (fetchJob (x .holding) (w .port .fetcher)) (postJob (x .posting) (w .port .poster))
+    game (plainOf w x) (sendJob (x .sending) (w .host .sender)) (takeJob (w .host .taker)) (fetchJob (x .holding) (w .port .fetcher)) (postJob (x .posting) (w .port .asked .answers) (w .port .poster))

@@ -3,6 +3,7 @@
 use Prim.Native.Nat.{ℕ}
 use mathlib.Core.Bool.{true, false}
 use mathlib.Core.List.{List, [], _∷_, _++_}
+use Rattle.base_side.specs.Step.{Outcome}
 use Rattle.base_words.specs.Words.{addressBits}
 use Rattle.base_memory.specs.Memory.{Memory}
 use Rattle.fact_plain.specs.Plain.{Bounds, start}
@@ -17,13 +18,13 @@ use Rattle.fact_traffic.specs.Instance.{smallSettings, small, smallWay, 
 use Rattle.fact_traffic.specs.Errors.{highWordFirst, fetchedUnlooked, returnedUnread, fifteenEach, accountKept, owedKept}
 
 -- Our halves with another send, fetch or post.
-abbrev pub sendingBy : (ℕ → Host → Memory → HostState.Outcome) → Halves
+abbrev pub sendingBy : (ℕ → Host → Memory → Outcome Host) → Halves
 sendingBy step = actBy (record { send = step; take = ours .take; fetch = ours .fetch; post = ours .post }) addressBits
 
-abbrev pub fetchingBy : (ℕ → Port → Memory → PortState.Outcome) → Halves
+abbrev pub fetchingBy : (ℕ → Port → Memory → Outcome Port) → Halves
 fetchingBy step = actBy (record { send = ours .send; take = ours .take; fetch = step; post = ours .post }) addressBits
 
-abbrev pub postingBy : (ℕ → Port → Memory → PortState.Outcome) → Halves
+abbrev pub postingBy : (ℕ → Port → Memory → Outcome Port) → Halves
 postingBy step = actBy (record { send = ours .send; take = ours .take; fetch = ours .fetch; post = step }) addressBits
 
 -- The promise, of any halves, for a run from the small start.

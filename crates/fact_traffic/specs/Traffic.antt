@@ -5,6 +5,7 @@ use mathlib.Core.Bool.{Bool, true, false, not, _||_}
 use lib.Dec.{eqb}
 use mathlib.Core.List.{List, [], _∷_}
 use lib.ListN.{length, getD}
+use Rattle.base_side.specs.Step.{stepped}
 use Rattle.base_words.specs.Words.{addressBits}
 use Rattle.base_texts.specs.Texts.{padded}
 use Rattle.base_answers.specs.Told.{Closing, going, done, refused, fatal, told}
@@ -16,10 +17,10 @@ use Rattle.port_state.specs.Shake.{saOf}
 use Rattle.host_state.specs.Shake.{accepts, areaOf}
 use Rattle.host_state.specs.Setup.{setUpBy}
 use Rattle.host_state.specs.declared.state.Beginning.{Beginning}
-use Rattle.host_state.specs.declared.state.Cursor.{Cursor}
+use Rattle.base_side.specs.declared.Cursor.{Cursor}
 use Rattle.host_state.specs.declared.state.Shake.the-variants.{Finished}
-use Rattle.host_state.specs.declared.state.TakeStage.the-variants.{Give}
-use Rattle.host_state.specs.declared.state.Taker.the-variants.{Taking}
+use Rattle.host_state.specs.declared.state.Stage.the-variants.{Release}
+use Rattle.host_state.specs.declared.state.Side.the-variants.{At as Taking}
 use Rattle.fact_meeting.specs.Meeting.{Pair, opened, Sight, seesAll}
 use Rattle.fact_traffic.specs.Places.{Site, view}
 use Rattle.fact_traffic.specs.Rings.{Letter, blank}
@@ -108,8 +109,8 @@ pub record Promise (f : Halves) (g : Site) (b : Bounds) (es : List Ev) (w : Worl
       → Letter (view g (final f es w .memory)) Command ((final f es w .port .counts .fetch + k) % slots (g .area) Command) (getD (reckoned f b es w s .commands) k blank)
   pub responses-held : (k : ℕ) → wholeFrom 0 (final f es w .host .taker) ≤ k → k < length (reckoned f b es w s .responses)
       → Letter (view g (final f es w .memory)) Response ((final f es w .host .counts .take + k) % slots (g .area) Response) (getD (reckoned f b es w s .responses) k blank)
-  pub response-in-hand : (c : Cursor) → final f es w .host .taker ≡ Taking Give c
-      → (final f es w .host .incoming ≡ padded (getD (reckoned f b es w s .responses) 0 blank .text)) × (c .credits ≡ getD (reckoned f b es w s .responses) 0 blank .credits)
+  pub response-in-hand : (c : Cursor) → final f es w .host .taker ≡ Taking Release c
+      → (final f es w .host .incoming ≡ padded (getD (reckoned f b es w s .responses) 0 blank .text)) × (final f es w .host .credits ≡ getD (reckoned f b es w s .responses) 0 blank .credits)
   -- no fatal error: SA reads 0, and no call answers 9 or 10 or a fatal code
   pub quiet : saOf (final f es w .port) ≡ 0
   pub calm : AllCalm (answers f es w)

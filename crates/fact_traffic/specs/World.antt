@@ -4,18 +4,21 @@ use Prim.Native.Nat.{ℕ, _<_}
 use mathlib.Core.Bool.{Bool}
 use mathlib.Core.List.{List, [], _∷_}
 use lib.ListN.{getD}
+use Rattle.base_side.specs.Step.{Next, Outcome}
 use Rattle.base_memory.specs.Memory.{Memory}
 use Rattle.base_answers.specs.Told.{Told, Closing}
 use Rattle.base_area.specs.declared.Ring.{Ring}
 use Rattle.port_state.specs.State as PortState
 use Rattle.port_state.specs.Shake.{saOf, saWritten}
 use Rattle.port_state.specs.Fetch.{fetchBegun, fetchStep}
+use Rattle.port_state.specs.Side.{portBegun, portStep}
 use Rattle.port_state.specs.Post.{postBegun, postStep}
 use Rattle.port_state.specs.declared.state.Port.{Port}
 use Rattle.host_state.specs.State as HostState
 use Rattle.host_state.specs.Shake.{Asks, Turn, saSeen, timeUp}
 use Rattle.host_state.specs.Setup.{indicatorCleared}
 use Rattle.host_state.specs.Send.{sendBegun, sendStep}
+use Rattle.host_state.specs.Side.{hostBegun, hostStep}
 use Rattle.host_state.specs.Take.{takeBegun, takeStep}
 use Rattle.host_state.specs.declared.state.Host.{Host}
 
@@ -85,39 +88,39 @@ abbrev pub did : Ans → World → Did
 did a w = record { ans = a; next = w }
 
 -- Each call, on the world.
-abbrev pub byHost : World → HostState.Outcome → Did
+abbrev pub byHost : World → Outcome Host → Did
 byHost w o = did (call (heardOf (o .told))) (world (o .state) (w .port) (o .memory))
 
-abbrev pub byHostOnly : World → HostState.Next → Did
+abbrev pub byHostOnly : World → Next Host → Did
 byHostOnly w x = did (call (heardOf (x .told))) (world (x .state) (w .port) (w .memory))
 
-abbrev pub byPort : World → PortState.Outcome → Did
+abbrev pub byPort : World → Outcome Port → Did
 byPort w o = did (call (heardOf (o .told))) (world (w .host) (o .state) (o .memory))
 
-abbrev pub byPortOnly : World → PortState.Next → Did
+abbrev pub byPortOnly : World → Next Port → Did
 byPortOnly w x = did (call (heardOf (x .told))) (world (w .host) (x .state) (w .memory))
 
 abbrev pub byTurn : World → Turn → Did
 byTurn w x = did (asked (x .asks)) (world (x .state) (w .port) (w .memory))
 
 -- The steps of the four sides. Ours are those of the contracts; others can be tried in their place.
-pub record Steps : Type 0 where
-  pub send : ℕ → Host → Memory → HostState.Outcome
-  pub take : ℕ → Host → Memory → HostState.Outcome
-  pub fetch : ℕ → Port → Memory → PortState.Outcome
-  pub post : ℕ → Port → Memory → PortState.Outcome
+pub record FourSteps : Type 0 where
+  pub send : ℕ → Host → Memory → Outcome Host
+  pub take : ℕ → Host → Memory → Outcome Host
+  pub fetch : ℕ → Port → Memory → Outcome Port
+  pub post : ℕ → Port → Memory → Outcome Port
 
-abbrev pub ours : Steps
+abbrev pub ours : FourSteps
 ours = record { send = sendStep; take = takeStep; fetch = fetchStep; post = postStep }
 
-abbrev pub actBy : Steps → ℕ → Ev → World → Did
+abbrev pub actBy : FourSteps → ℕ → Ev → World → Did
 actBy k n (beginSend f t) w = byHostOnly w (sendBegun (w .host) (record { flag = f }) t)
 actBy k n stepSend w = byHost w (k .send n (w .host) (w .memory))
 actBy k n beginTake w = byHostOnly w (takeBegun (w .host))
 actBy k n stepTake w = byHost w (k .take n (w .host) (w .memory))
 actBy k n beginFetch w = byPortOnly w (fetchBegun (w .port))
 actBy k n stepFetch w = byPort w (k .fetch n (w .port) (w .memory))
-actBy k n (beginPost a t) w = byPortOnly w (postBegun (w .port) a t)
+actBy k n (beginPost a t) w = byPortOnly w (postBegun (w .port) (record { answers = a }) t)
 actBy k n stepPost w = byPort w (k .post n (w .port) (w .memory))
 actBy k n (clearMark r) w = byHost w (indicatorCleared n (w .host) r (w .memory))
 actBy k n readSa w = did (word (saOf (w .port))) w

@@ -6,6 +6,7 @@ use mathlib.Core.Bool.{Bool, true, false}
 use mathlib.Core.List.{List, [], _∷_}
 use lib.Dec.{ltb}
 use lib.ListN.{getD, set}
+use Rattle.base_side.specs.Step.{Next}
 use Rattle.base_words.specs.Words.{addressBits}
 use Rattle.base_memory.specs.Memory.{Memory}
 use Rattle.base_texts.specs.Texts.{wordOf}
@@ -14,11 +15,13 @@ use Rattle.base_answers.specs.declared.Said.{Said}
 use Rattle.base_answers.specs.declared.Reply.{Reply}
 use Rattle.port_state.specs.State as PortState
 use Rattle.port_state.specs.Fetch.{fetchBegun, fetchStep}
+use Rattle.port_state.specs.Side.{portBegun, portStep}
 use Rattle.port_state.specs.Post.{postBegun, postStep}
 use Rattle.port_state.specs.declared.state.Port.{Port}
 use Rattle.port_state.specs.declared.state.Stepped as PortStepped
 use Rattle.host_state.specs.State as HostState
 use Rattle.host_state.specs.Send.{sendBegun, sendStep}
+use Rattle.host_state.specs.Side.{hostBegun, hostStep}
 use Rattle.host_state.specs.Take.{takeBegun, takeStep}
 use Rattle.host_state.specs.declared.state.Host.{Host}
 use Rattle.host_state.specs.declared.state.Stepped as HostStepped
@@ -90,7 +93,7 @@ module _ (x : Machine) (m n : Memory) {y : Machine} where
   send-is b r e f g h =
       ap (λ (z : Machine). stand z n) h
       ∙ ap (sendEnds x) g
-      ∙ ap (λ (z : HostState.Next). sendEnds x (sendStep addressBits (z .state) m)) f
+      ∙ ap (λ (z : Next Host). sendEnds x (sendStep addressBits (z .state) m)) f
       ∙ ap (λ (l : List ℕ). sendEnds x (sendStep addressBits (sendBegun (x .host) unflagged l .state) m)) e
 
   pub take-is : (b r : HostStepped.Stepped) → HostState.answered b ≡ takeBegun (x .host) → HostState.seen r n ≡ takeStep addressBits (b .host) m → y ≡ afterTake x (toldOf (r .reply)) (r .host) → stand y n ≡ takeTurn x m
@@ -98,19 +101,19 @@ module _ (x : Machine) (m n : Memory) {y : Machine} where
   take-is b r f g h =
       ap (λ (z : Machine). stand z n) h
       ∙ ap (takeEnds x) g
-      ∙ ap (λ (z : HostState.Next). takeEnds x (takeStep addressBits (z .state) m)) f
+      ∙ ap (λ (z : Next Host). takeEnds x (takeStep addressBits (z .state) m)) f
 
   pub fetch-is : (b r : PortStepped.Stepped) → PortState.answered b ≡ fetchBegun (x .port) → PortState.seen r n ≡ fetchStep addressBits (b .port) m → y ≡ afterFetch x (toldOf (r .reply)) (r .port) → stand y n ≡ fetchTurn x m
   unfolding fetchTurn
   fetch-is b r f g h =
       ap (λ (z : Machine). stand z n) h
       ∙ ap (fetchEnds x) g
-      ∙ ap (λ (z : PortState.Next). fetchEnds x (fetchStep addressBits (z .state) m)) f
+      ∙ ap (λ (z : Next Port). fetchEnds x (fetchStep addressBits (z .state) m)) f
 
   pub answer-is : {t : List ℕ} {o : ℕ} (b r : PortStepped.Stepped) → o ≡ oldest x → t ≡ bytesOf o → PortState.answered b ≡ postBegun (x .port) true t → PortState.seen r n ≡ postStep addressBits (b .port) m → y ≡ afterAnswer x (toldOf (r .reply)) (r .port) → stand y n ≡ answerTurn x m
   unfolding answerTurn
   answer-is b r k e f g h =
       ap (λ (z : Machine). stand z n) h
       ∙ ap (answerEnds x) g
-      ∙ ap (λ (z : PortState.Next). answerEnds x (postStep addressBits (z .state) m)) f
+      ∙ ap (λ (z : Next Port). answerEnds x (postStep addressBits (z .state) m)) f
       ∙ ap (λ (l : List ℕ). answerEnds x (postStep addressBits (postBegun (x .port) true l .state) m)) (e ∙ ap bytesOf k)

@@ -4,6 +4,7 @@ use Prim.Native.Nat.{ℕ, zero, suc, _-_, _<_}
 use mathlib.Core.Path.{_≡_, sym, ap, _∙_}
 use native.Mathlib.Nat.{not-suc-le-zero}
 use native.Mathlib.Numerals.{sub-one}
+use Rattle.base_side.specs.Step.{Outcome}
 use Rattle.base_words.specs.Words.{addressBits}
 use Rattle.base_memory.specs.Memory.{Memory}
 use Rattle.port_state.specs.State as PortState
@@ -32,7 +33,7 @@ module _ (h : Host) (p : Port) (m : Memory) (a : Act) where
   obey-ip e f = ap (λ (z : Port). pair h z m) f ∙ obey-as WriteIp e
 
   pub obey-sa : {w : ℕ} (r : PortStepped.Stepped) (n : Memory) → a ≡ WriteSa w → PortState.seen r n ≡ saWritten addressBits p w m → pair h (r .port) n ≡ obeyed h p m (asksOf a)
-  obey-sa {w} r n e f = ap (λ (o : PortState.Outcome). pair h (o .state) (o .memory)) f ∙ obey-as (WriteSa w) e
+  obey-sa {w} r n e f = ap (λ (o : Outcome Port). pair h (o .state) (o .memory)) f ∙ obey-as (WriteSa w) e
 
 pub begins-is : (b : Beginning) (h : Host) (p : Port) (m : Memory) (x : Pair) (r : Shaken) → turned r ≡ begun addressBits h b → x ≡ obeyed (r .host) p m (asksOf (r .act)) → x ≡ opened b (pair h p m)
 unfolding opened

@@ -4,16 +4,19 @@ use mathlib.Core.Bool.{Bool, true, false, cond}
 use mathlib.Core.List.{List, [], _∷_}
 use lib.Dec.{ltb}
 use lib.ListN.{getD, set}
+use Rattle.base_side.specs.Step.{Outcome}
 use Rattle.base_words.specs.Words.{addressBits}
 use Rattle.base_memory.specs.Memory.{Memory}
 use Rattle.base_texts.specs.Texts.{wordOf}
 use Rattle.base_answers.specs.Told.{Told, Closing, going, done, refused, fatal}
 use Rattle.port_state.specs.State as PortState
 use Rattle.port_state.specs.Fetch.{fetchBegun, fetchStep}
+use Rattle.port_state.specs.Side.{portBegun, portStep}
 use Rattle.port_state.specs.Post.{postBegun, postStep}
 use Rattle.port_state.specs.declared.state.Port.{Port}
 use Rattle.host_state.specs.State as HostState
 use Rattle.host_state.specs.Send.{sendBegun, sendStep}
+use Rattle.host_state.specs.Side.{hostBegun, hostStep}
 use Rattle.host_state.specs.Take.{takeBegun, takeStep}
 use Rattle.host_state.specs.declared.state.Asked.{Asked}
 use Rattle.host_state.specs.declared.state.Host.{Host}
@@ -96,16 +99,16 @@ afterAnswer x t p =
       texts = x .texts;
     }
 
-abbrev pub sendEnds : Machine → HostState.Outcome → Stand
+abbrev pub sendEnds : Machine → Outcome Host → Stand
 sendEnds x o = stand (afterSend x (o .told) (o .state)) (o .memory)
 
-abbrev pub takeEnds : Machine → HostState.Outcome → Stand
+abbrev pub takeEnds : Machine → Outcome Host → Stand
 takeEnds x o = stand (afterTake x (o .told) (o .state)) (o .memory)
 
-abbrev pub fetchEnds : Machine → PortState.Outcome → Stand
+abbrev pub fetchEnds : Machine → Outcome Port → Stand
 fetchEnds x o = stand (afterFetch x (o .told) (o .state)) (o .memory)
 
-abbrev pub answerEnds : Machine → PortState.Outcome → Stand
+abbrev pub answerEnds : Machine → Outcome Port → Stand
 answerEnds x o = stand (afterAnswer x (o .told) (o .state)) (o .memory)
 
 -- "F=0".

@@ -2,6 +2,7 @@
 use Prim.Native.Nat.{ℕ}
 use mathlib.Core.Bool.{false}
 use lib.ListN.{replicate}
+use Rattle.base_side.specs.Step.{Outcome}
 use Rattle.base_words.specs.Words.{addressBits}
 use Rattle.base_memory.specs.Memory.{Memory}
 use Rattle.port_state.specs.Shake.{created}
@@ -29,7 +30,7 @@ unmet limit = record { host = newHost; port = created (madeWith limit) .state }
 abbrev pub nothing : Tally
 nothing = record { sent = 0; taken = 0; fetched = 0; answered = 0; command = 0; response = 0 }
 
-abbrev pub settledBy : Pair → HostState.Outcome → Stand
+abbrev pub settledBy : Pair → Outcome Host → Stand
 settledBy x o = stand (record { host = o .state; port = x .port; tally = nothing; texts = replicate 64 0 }) (o .memory)
 
 unfoldable pub settled : Pair → Stand

@@ -1,5 +1,6 @@
 -- All twelve rows by computing the definitions. Assumes nothing.
-use mathlib.Core.Path.{refl}
+use mathlib.Core.Path.{_≡_, refl, sym}
+use lib.ListN.{length}
 use Rattle.base_texts.specs.Texts.{zeros}
 use Rattle.base_memory.specs.Memory.{usable, lies, cleared}
 use Rattle.base_rules.specs.Rules.{carriedOf, leftOf}
@@ -15,8 +16,12 @@ all-rows : Claim
 unfolding table zeros usable lies cleared carriedOf leftOf slots base slotAt nextOf hasVector stepInterrupt areaLies areaCleared created saOf firstHeard saWritten creditsOf posted accepts begun expecting saSeen
 all-rows = refl
 
+counted : length table ≡ 12
+unfolding table
+counted = refl
+
 returns : tie.Need-returns
-returns c = (refl, all-rows)
+returns c = (sym counted, all-rows)
 
 pub marked-examples-spec : {M : Type 1} → statement M
 marked-examples-spec = tie.close (tie.spec returns)
