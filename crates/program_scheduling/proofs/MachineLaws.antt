@@ -6,7 +6,7 @@ use mathlib.Core.Bool.{Bool, true, false}
 use mathlib.Core.List.{List, [], _∷_}
 use lib.Dec.{ltb}
 use lib.ListN.{getD, set}
-use Rattle.base_side.specs.Step.{Next}
+use Rattle.base_side.specs.Step.{Next, Outcome, with-memory}
 use Rattle.base_words.specs.Words.{addressBits}
 use Rattle.base_memory.specs.Memory.{Memory}
 use Rattle.base_texts.specs.Texts.{wordOf}
@@ -88,7 +88,7 @@ module _ (x : Machine) (r : Reply) {t : Tally} where
 
 -- A side's step: its beginning, the step, and what is counted.
 module _ (x : Machine) (m n : Memory) {y : Machine} where
-  pub send-is : {t : List ℕ} (b r : HostStepped.Stepped) → t ≡ bytesOf (x .tally .sent) → HostState.answered b ≡ sendBegun (x .host) unflagged t → HostState.seen r n ≡ sendStep addressBits (b .host) m → y ≡ afterSend x (toldOf (r .reply)) (r .host) → stand y n ≡ sendTurn x m
+  pub send-is : {t : List ℕ} (b r : HostStepped.Stepped) → t ≡ bytesOf (x .tally .sent) → HostState.nextBy b ≡ sendBegun (x .host) unflagged t → with-memory (HostState.nextBy r) n ≡ sendStep addressBits (b .host) m → y ≡ afterSend x (toldOf (r .reply)) (r .host) → stand y n ≡ sendTurn x m
   unfolding sendTurn
   send-is b r e f g h =
       ap (λ (z : Machine). stand z n) h
@@ -96,24 +96,24 @@ module _ (x : Machine) (m n : Memory) {y : Machine} where
       ∙ ap (λ (z : Next Host). sendEnds x (sendStep addressBits (z .state) m)) f
       ∙ ap (λ (l : List ℕ). sendEnds x (sendStep addressBits (sendBegun (x .host) unflagged l .state) m)) e
 
-  pub take-is : (b r : HostStepped.Stepped) → HostState.answered b ≡ takeBegun (x .host) → HostState.seen r n ≡ takeStep addressBits (b .host) m → y ≡ afterTake x (toldOf (r .reply)) (r .host) → stand y n ≡ takeTurn x m
+  pub take-is : (b r : HostStepped.Stepped) → HostState.nextBy b ≡ takeBegun (x .host) → with-memory (HostState.nextBy r) n ≡ takeStep addressBits (b .host) m → y ≡ afterTake x (toldOf (r .reply)) (r .host) → stand y n ≡ takeTurn x m
   unfolding takeTurn
   take-is b r f g h =
       ap (λ (z : Machine). stand z n) h
       ∙ ap (takeEnds x) g
       ∙ ap (λ (z : Next Host). takeEnds x (takeStep addressBits (z .state) m)) f
 
-  pub fetch-is : (b r : PortStepped.Stepped) → PortState.answered b ≡ fetchBegun (x .port) → PortState.seen r n ≡ fetchStep addressBits (b .port) m → y ≡ afterFetch x (toldOf (r .reply)) (r .port) → stand y n ≡ fetchTurn x m
+  pub fetch-is : (b r : PortStepped.Stepped) → PortState.nextBy b ≡ fetchBegun (x .port) → with-memory (PortState.nextBy r) n ≡ fetchStep addressBits (b .port) m → y ≡ afterFetch x (toldOf (r .reply)) (r .port) → stand y n ≡ fetchTurn x m
   unfolding fetchTurn
   fetch-is b r f g h =
       ap (λ (z : Machine). stand z n) h
       ∙ ap (fetchEnds x) g
       ∙ ap (λ (z : Next Port). fetchEnds x (fetchStep addressBits (z .state) m)) f
 
-  pub answer-is : {t : List ℕ} {o : ℕ} (b r : PortStepped.Stepped) → o ≡ oldest x → t ≡ bytesOf o → PortState.answered b ≡ postBegun (x .port) true t → PortState.seen r n ≡ postStep addressBits (b .port) m → y ≡ afterAnswer x (toldOf (r .reply)) (r .port) → stand y n ≡ answerTurn x m
+  pub answer-is : {t : List ℕ} {o : ℕ} (b r : PortStepped.Stepped) → o ≡ oldest x → t ≡ bytesOf o → PortState.nextBy b ≡ postBegun (x .port) (record { answers = true }) t → with-memory (PortState.nextBy r) n ≡ postStep addressBits (b .port) m → y ≡ afterAnswer x (toldOf (r .reply)) (r .port) → stand y n ≡ answerTurn x m
   unfolding answerTurn
   answer-is b r k e f g h =
       ap (λ (z : Machine). stand z n) h
       ∙ ap (answerEnds x) g
       ∙ ap (λ (z : Next Port). answerEnds x (postStep addressBits (z .state) m)) f
-      ∙ ap (λ (l : List ℕ). answerEnds x (postStep addressBits (postBegun (x .port) true l .state) m)) (e ∙ ap bytesOf k)
+      ∙ ap (λ (l : List ℕ). answerEnds x (postStep addressBits (postBegun (x .port) (record { answers = true }) l .state) m)) (e ∙ ap bytesOf k)

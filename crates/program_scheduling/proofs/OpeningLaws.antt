@@ -4,7 +4,7 @@ use Prim.Native.Nat.{ℕ, zero, suc, _-_, _<_}
 use mathlib.Core.Path.{_≡_, sym, ap, _∙_}
 use native.Mathlib.Nat.{not-suc-le-zero}
 use native.Mathlib.Numerals.{sub-one}
-use Rattle.base_side.specs.Step.{Outcome}
+use Rattle.base_side.specs.Step.{Outcome, with-memory}
 use Rattle.base_words.specs.Words.{addressBits}
 use Rattle.base_memory.specs.Memory.{Memory}
 use Rattle.port_state.specs.State as PortState
@@ -12,7 +12,7 @@ use Rattle.port_state.specs.Shake.{saOf, saWritten}
 use Rattle.port_state.specs.declared.state.Port.{Port}
 use Rattle.port_state.specs.declared.state.Stepped as PortStepped
 use Rattle.host_state.specs.State as HostState
-use Rattle.host_state.specs.Shake.{Turn, turned, asksOf, begun, saSeen}
+use Rattle.host_state.specs.Shake.{Turn, turnBy, asksOf, begun, saSeen}
 use Rattle.host_state.specs.Setup.{setUpBy}
 use Rattle.host_state.specs.declared.state.Act.{Act}
 use Rattle.host_state.specs.declared.state.Act.the-variants.{WriteIp, WriteSa}
@@ -32,14 +32,14 @@ module _ (h : Host) (p : Port) (m : Memory) (a : Act) where
   pub obey-ip : {q : Port} → a ≡ WriteIp → q ≡ PortState.fresh (p .made) → pair h q m ≡ obeyed h p m (asksOf a)
   obey-ip e f = ap (λ (z : Port). pair h z m) f ∙ obey-as WriteIp e
 
-  pub obey-sa : {w : ℕ} (r : PortStepped.Stepped) (n : Memory) → a ≡ WriteSa w → PortState.seen r n ≡ saWritten addressBits p w m → pair h (r .port) n ≡ obeyed h p m (asksOf a)
+  pub obey-sa : {w : ℕ} (r : PortStepped.Stepped) (n : Memory) → a ≡ WriteSa w → with-memory (PortState.nextBy r) n ≡ saWritten addressBits p w m → pair h (r .port) n ≡ obeyed h p m (asksOf a)
   obey-sa {w} r n e f = ap (λ (o : Outcome Port). pair h (o .state) (o .memory)) f ∙ obey-as (WriteSa w) e
 
-pub begins-is : (b : Beginning) (h : Host) (p : Port) (m : Memory) (x : Pair) (r : Shaken) → turned r ≡ begun addressBits h b → x ≡ obeyed (r .host) p m (asksOf (r .act)) → x ≡ opened b (pair h p m)
+pub begins-is : (b : Beginning) (h : Host) (p : Port) (m : Memory) (x : Pair) (r : Shaken) → turnBy r ≡ begun addressBits h b → x ≡ obeyed (r .host) p m (asksOf (r .act)) → x ≡ opened b (pair h p m)
 unfolding opened
 begins-is b h p m x r e f = f ∙ ap (λ (t : Turn). obeyed (t .state) p m (t .asks)) e
 
-pub show-is : (h : Host) (p : Port) (m : Memory) (x : Pair) (w : ℕ) (r : Shaken) → w ≡ saOf p → turned r ≡ saSeen h w → x ≡ obeyed (r .host) p m (asksOf (r .act)) → x ≡ exchange (pair h p m)
+pub show-is : (h : Host) (p : Port) (m : Memory) (x : Pair) (w : ℕ) (r : Shaken) → w ≡ saOf p → turnBy r ≡ saSeen h w → x ≡ obeyed (r .host) p m (asksOf (r .act)) → x ≡ exchange (pair h p m)
 unfolding exchange
 show-is h p m x w r k e f =
     f
@@ -55,7 +55,7 @@ unfolding exchanges
 shows-more zero x y l e = absurd (not-suc-le-zero l)
 shows-more (suc k) x y l e = rw (sub-one, e)
 
-pub settle-is : (x : Pair) (r : HostStepped.Stepped) (n : Memory) → HostState.seen r n ≡ setUpBy addressBits (x .host) 2048 (x .memory) → settledBy x (HostState.seen r n) ≡ settled x
+pub settle-is : (x : Pair) (r : HostStepped.Stepped) (n : Memory) → with-memory (HostState.nextBy r) n ≡ setUpBy addressBits (x .host) 2048 (x .memory) → settledBy x (with-memory (HostState.nextBy r) n) ≡ settled x
 unfolding settled
 settle-is x r n e = ap (settledBy x) e
 

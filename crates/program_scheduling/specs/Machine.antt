@@ -127,4 +127,4 @@ unfoldable pub fetchTurn : Machine → Memory → Stand
 fetchTurn x m = fetchEnds x (fetchStep addressBits (fetchBegun (x .port) .state) m)
 
 unfoldable pub answerTurn : Machine → Memory → Stand
-answerTurn x m = answerEnds x (postStep addressBits (postBegun (x .port) true (bytesOf (oldest x)) .state) m)
+answerTurn x m = answerEnds x (postStep addressBits (postBegun (x .port) (record { answers = true }) (bytesOf (oldest x)) .state) m)

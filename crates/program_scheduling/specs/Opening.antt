@@ -12,6 +12,7 @@ use Rattle.host_state.specs.Shake.{newHost}
 use Rattle.host_state.specs.Setup.{setUpBy}
 use Rattle.host_state.specs.declared.state.Beginning.{Beginning}
 use Rattle.fact_meeting.specs.Meeting.{Pair, pair, opened, exchanges}
+use Rattle.host_state.specs.declared.state.Host.{Host}
 use Rattle.program_scheduling.specs.Machine.{Stand, stand}
 use Rattle.program_scheduling.specs.declared.machine.Tally.{Tally}
 use Rattle.program_scheduling.specs.declared.opening.Halves.{Halves}

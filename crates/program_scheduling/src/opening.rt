@@ -34,7 +34,7 @@ fn obey(host: Host, port: Port, act: Act, mem: &mut [u8]) -> Halves
         }
         Act::Waiting => Halves { host, port },
         Act::IsDead => Halves { host, port },
-        Act::Nothing => Halves { host, port },
+        Act::None => Halves { host, port },
         Act::PortFailed(_) => Halves { host, port },
         Act::Denied(_) => Halves { host, port },
     }
