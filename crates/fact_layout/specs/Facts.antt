@@ -1,5 +1,6 @@
 -- Ring and layout facts, shown once for every exponent, over the number of address bits.
 use Prim.Native.Nat.{ℕ, _+_, _-_, _%_, _<_, _≤_}
+use mathlib.Core.List.{List, [], _∷_}
 use mathlib.Core.Path.{_≡_}
 use mathlib.Core.Bool.{true, false}
 use mathlib.Core.Logic.{_⊎_}
@@ -55,6 +56,10 @@ pub record AreaFacts (n : ℕ) (a : Area) (pool end : ℕ) : Type 0 where
   pub envelopes-clear : (r : Ring) (i : ℕ) (r′ : Ring) (i′ : ℕ) → i < slots a r → i′ < slots a r′ → Apart r i r′ i′ → Clear (envelopeAt a pool r i) 64 (envelopeAt a pool r′ i′) 64
   -- the pool keeps clear of indicators and rings
   pub pool-clear : (poolEnd a pool + 4 ≤ base n a) ⊎ (ringsEnd n a ≤ pool)
+
+-- The two rings.
+abbrev pub bothRings : List Ring
+bothRings = Command ∷ Response ∷ []
 
 pub record EveryLayout : Type 0 where
   pub ring : (a : Area) (r : Ring) → RingFacts a r

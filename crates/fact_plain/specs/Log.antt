@@ -14,6 +14,10 @@ pub data Op : Type 0 where
   posts : Bool → List ℕ → Op
   takes : Op
 
+-- One of each kind.
+abbrev pub operations : List Op
+operations = sends [] ∷ fetches ∷ posts true [] ∷ takes ∷ []
+
 abbrev pub does : Bounds → Op → Plain → Result
 does b (sends t) x = send b t x
 does b fetches x = fetch x

@@ -9,36 +9,34 @@ use Rattle.base_area.specs.Setup.{fits, slotSet, slotsSet, setUp}
 use Rattle.port_state.specs.Post.{creditsOf, posted}
 use Rattle.host_state.specs.State.{isReady}
 use Rattle.host_state.specs.Setup.{setUpBy}
-use Rattle.fact_progress.specs.Instance.{Met}
+use Rattle.fact_progress.specs.Instance.{EveryPremiseMet}
+use Rattle.fact_progress.specs.Progress.{sends, takes, fetches, posts}
 
-pub met : Met
+pub met : EveryPremiseMet
 unfolding zeros byteAt withByte wordOf withText padded usable inside lies withWord cleared faultOf carriedOf leftOf slots base slotAt nextOf envelopeAt fits slotSet slotsSet setUp creditsOf posted isReady setUpBy
-met =
+met sends = record { ready = refl; idle = refl; short = lit≤ tt; credit = lit≤ tt; index = lit< tt; area-fits = refl; near = lit≤ tt; free = refl }
+met takes = record { ready = refl; idle = refl; index = lit< tt; area-fits = refl; near = lit≤ tt; back = refl; sound = refl; room = lit≤ tt }
+met fetches =
     record {
-      send = record { ready = refl; idle = refl; short = lit≤ tt; credit = lit≤ tt; index = lit< tt; area-fits = refl; near = lit≤ tt; free = refl };
-      fetch =
-          record {
-            runs = refl;
-            idle = refl;
-            index = lit< tt;
-            rings = record { low = lit≤ tt; high = lit≤ tt };
-            mine = refl;
-            above = lit≤ tt;
-            below = lit≤ tt;
-            sound = refl;
-            credit = refl;
-          };
-      post =
-          record {
-            runs = refl;
-            idle = refl;
-            short = lit≤ tt;
-            fetched = λ e. lit≤ tt;
-            index = lit< tt;
-            rings = record { low = lit≤ tt; high = lit≤ tt };
-            mine = refl;
-            above = lit≤ tt;
-            below = lit≤ tt;
-          };
-      take = record { ready = refl; idle = refl; index = lit< tt; area-fits = refl; near = lit≤ tt; back = refl; sound = refl; room = lit≤ tt };
+      runs = refl;
+      idle = refl;
+      index = lit< tt;
+      rings = record { low = lit≤ tt; high = lit≤ tt };
+      mine = refl;
+      above = lit≤ tt;
+      below = lit≤ tt;
+      sound = refl;
+      credit = refl;
+    }
+met posts =
+    record {
+      runs = refl;
+      idle = refl;
+      short = lit≤ tt;
+      fetched = λ e. lit≤ tt;
+      index = lit< tt;
+      rings = record { low = lit≤ tt; high = lit≤ tt };
+      mine = refl;
+      above = lit≤ tt;
+      below = lit≤ tt;
     }

@@ -15,7 +15,7 @@ use Rattle.host_state.specs.Setup.{setUpBy}
 use Rattle.host_state.specs.declared.state.Shake.the-variants.{Finished}
 use Rattle.host_state.specs.declared.state.Host.{Host}
 use Rattle.fact_progress.specs.Alone.{written}
-use Rattle.fact_progress.specs.Progress.{MaySend, MayTake, MayFetch, MayPost, sendPuts, afterSend, fetchLeft, afterFetch, postLeft}
+use Rattle.fact_progress.specs.Progress.{Operation, sends, takes, fetches, posts, MaySend, MayTake, MayFetch, MayPost, sendPuts, afterSend, fetchLeft, afterFetch, postLeft}
 
 abbrev pub area : Area
 area = areaOf (record { command = 0; response = 0; interrupts = false; vector = 0; base = 8 })
@@ -46,8 +46,12 @@ memory2 = fetchLeft addressBits port0 area memory1
 abbrev pub memory3 : Memory
 memory3 = postLeft addressBits port1 area true text memory2
 
-pub record Met : Type 0 where
-  pub send : MaySend addressBits host0 text memory0
-  pub fetch : MayFetch addressBits port0 area memory1
-  pub post : MayPost addressBits port1 area true text memory2
-  pub take : MayTake addressBits (afterSend host0 (record { flag = false }) text) memory3
+-- The premises of each.
+abbrev pub Met : Operation → Type 0
+Met sends = MaySend addressBits host0 text memory0
+Met takes = MayTake addressBits (afterSend host0 (record { flag = false }) text) memory3
+Met fetches = MayFetch addressBits port0 area memory1
+Met posts = MayPost addressBits port1 area true text memory2
+
+abbrev pub EveryPremiseMet : Type 0
+EveryPremiseMet = (o : Operation) → Met o

@@ -235,8 +235,20 @@ pub record PostEnds (n : ℕ) (p : Port) (a : Area) (answers : Bool) (t : List �
 
 ---------------------------------------------------------------- all four
 
-pub record EveryOperationEnds : Type 0 where
-  pub send : (n : ℕ) (h : Host) (x : Asked) (t : List ℕ) (m : Memory) → MaySend n h t m → SendEnds n h x t m
-  pub take : (n : ℕ) (h : Host) (m : Memory) → MayTake n h m → TakeEnds n h m
-  pub fetch : (n : ℕ) (p : Port) (a : Area) (m : Memory) → MayFetch n p a m → FetchEnds n p a m
-  pub post : (n : ℕ) (p : Port) (a : Area) (answers : Bool) (t : List ℕ) (m : Memory) → MayPost n p a answers t m → PostEnds n p a answers t m
+pub data Operation : Type 0 where
+  sends : Operation
+  takes : Operation
+  fetches : Operation
+  posts : Operation
+
+abbrev pub operations : List Operation
+operations = sends ∷ takes ∷ fetches ∷ posts ∷ []
+
+abbrev pub Ends : Operation → Type 0
+Ends sends = (n : ℕ) (h : Host) (x : Asked) (t : List ℕ) (m : Memory) → MaySend n h t m → SendEnds n h x t m
+Ends takes = (n : ℕ) (h : Host) (m : Memory) → MayTake n h m → TakeEnds n h m
+Ends fetches = (n : ℕ) (p : Port) (a : Area) (m : Memory) → MayFetch n p a m → FetchEnds n p a m
+Ends posts = (n : ℕ) (p : Port) (a : Area) (answers : Bool) (t : List ℕ) (m : Memory) → MayPost n p a answers t m → PostEnds n p a answers t m
+
+abbrev pub EveryOperationEnds : Type 0
+EveryOperationEnds = (o : Operation) → Ends o

@@ -69,6 +69,17 @@ whileReading =
 abbrev pub onceAround : List Ev
 onceAround = sendNone ++ fetchNone ++ answerNone ++ takeNone
 
+-- The wrong halves.
+abbrev pub errors : List Halves
+errors =
+    sendingBy highWordFirst
+    ∷ fetchingBy fetchedUnlooked
+    ∷ fetchingBy returnedUnread
+    ∷ postingBy fifteenEach
+    ∷ sendingBy accountKept
+    ∷ postingBy owedKept
+    ∷ []
+
 -- The small start is one of those that the theorem is about, so halves that break the promise there have no such theorem.
 pub record ShutOut : Type 0 where
   pub starts : Start smallSettings small smallWay [] 64

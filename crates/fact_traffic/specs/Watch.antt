@@ -55,10 +55,10 @@ jobSize (waiting o) = opSize o
 jobSize (over c) = 0
 
 -- Whether an operation is asked for and not yet done.
-abbrev pub waits : Job → Bool
-waits idle = false
-waits (waiting o) = true
-waits (over c) = false
+abbrev pub isWaiting : Job → Bool
+isWaiting idle = false
+isWaiting (waiting o) = true
+isWaiting (over c) = false
 
 -- A send or a take is done, and told, where its answer ends it; a fetch or a post is done at its high word, or refused where its answer
 -- ends it. Calls that are no steps do nothing.
@@ -68,9 +68,9 @@ momentOf w stepSend a = record { acts = ended a; tells = ended a }
 momentOf w beginTake a = record { acts = false; tells = false }
 momentOf w stepTake a = record { acts = ended a; tells = ended a }
 momentOf w beginFetch a = record { acts = false; tells = false }
-momentOf w stepFetch a = record { acts = ended a || (waits (w .play .fetcher) && eqb (w .fetching) (stepsBefore (oldestSize (w .play .plain .commands)))); tells = ended a }
+momentOf w stepFetch a = record { acts = ended a || (isWaiting (w .play .fetcher) && eqb (w .fetching) (stepsBefore (oldestSize (w .play .plain .commands)))); tells = ended a }
 momentOf w (beginPost b t) a = record { acts = false; tells = false }
-momentOf w stepPost a = record { acts = ended a || (waits (w .play .poster) && eqb (w .posting) (stepsBefore (jobSize (w .play .poster)))); tells = ended a }
+momentOf w stepPost a = record { acts = ended a || (isWaiting (w .play .poster) && eqb (w .posting) (stepsBefore (jobSize (w .play .poster)))); tells = ended a }
 momentOf w (clearMark r) a = record { acts = false; tells = false }
 momentOf w readSa a = record { acts = false; tells = false }
 momentOf w (writeSa x) a = record { acts = false; tells = false }

@@ -1,6 +1,6 @@
 -- The fact is `every-step`. Assumes nothing.
 use mathlib.Core.Path.{refl}
-use Rattle.fact_oneword.proofs.Steps.{every-step}
+use Rattle.fact_oneword.proofs.Touching.{every-step}
 use Rattle.fact_oneword.proofs.every_step.Statement.{statement}
 use Rattle.fact_oneword.proofs.every_step.Tie as tie
 
