@@ -5,6 +5,9 @@ use mathlib.Core.Bool.{Bool, true, false}
 use mathlib.Core.List.{List, []}
 use native.Mathlib.Omega.{arith}
 use native.Mathlib.Nat.{mod-add-mod}
+use lib.Dec.{ltb}
+use borrow.Author.Tests.{lt-ltb, le-ltb}
+use mathlib.Core.Logic.{inl, inr}
 use lib.ListN.{length, getD, drop, length-drop}
 use lib.Seq.{getD-drop}
 use Rattle.base_side.specs.Step.{Outcome}
@@ -18,7 +21,7 @@ use Rattle.base_area.specs.declared.Area.{Area}
 use Rattle.base_area.specs.declared.Ring.{Ring}
 use Rattle.base_area.specs.declared.Ring.the-variants.{Command, Response}
 use Rattle.fact_layout.specs.Facts.{AreaFacts}
-use Rattle.fact_layout.proofs.Rings.{slots-some, number-lt, every-layout}
+use Rattle.fact_layout.proofs.Rings.{slots-some, lt-or-ge, number-lt, every-layout}
 use Rattle.fact_plain.specs.Plain.{Entry, Bounds, Plain, start}
 use Rattle.fact_plain.specs.Log.{nothing, Ran, begin, Good, posts}
 use Rattle.fact_plain.proofs.InOrder.{every-run-in-order}
@@ -41,8 +44,8 @@ use Rattle.host_state.specs.declared.state.Stage.the-variants as H
 use Rattle.host_state.specs.declared.state.Host.{Host}
 use Rattle.fact_meeting.specs.Meeting.{Pair, opened, Sight, seesAll, Came}
 use Rattle.fact_meeting.proofs.Ways.{every-way}
-use Rattle.fact_traffic.specs.Places.{Site, view}
-use Rattle.fact_traffic.specs.Rings.{Letter, blank, RingInv}
+use Rattle.fact_traffic.specs.Places.{slotWord, Site, view}
+use Rattle.fact_traffic.specs.Rings.{Letter, waits, blank, RingInv}
 use Rattle.fact_traffic.specs.World.{World, world, Ev, act, final}
 use Rattle.fact_traffic.specs.Play.{idle, Play, game, waiting}
 use Rattle.fact_traffic.specs.Invariant.{Past, FetchInv, PostInv, wholeFrom, Inv, Setting, fetchJob, postJob, plainOf, playOf, TakeInv, nextResponse}
@@ -124,6 +127,16 @@ held g r m i j hist h from R k f l =
     let e : (j + k) % slots (g .area) r ≡ (h + k) % slots (g .area) r = ap (λ (y : ℕ). (y + k) % slots (g .area) r) (R .taker) ∙ mod-add-mod h (slots (g .area) r) k in
     rw (e, getD-drop h hist k blank) (R .kept (h + k) f (omega (arith, l, length-drop h hist)))
 
+-- and the other slots hold none
+owned : (g : Site) (r : Ring) (m : Memory) (i j : ℕ) (hist : List Entry) (h from : ℕ) → RingInv g (view g m) r i j hist h from → (k : ℕ) → k < slots (g .area) r
+    → waits r (view g m (slotWord r ((j + k) % slots (g .area) r) 2)) ≡ ltb k (length (drop h hist))
+owned g r m i j hist h from R k l =
+    let e : (j + k) % slots (g .area) r ≡ (h + k) % slots (g .area) r = ap (λ (y : ℕ). (y + k) % slots (g .area) r) (R .taker) ∙ mod-add-mod h (slots (g .area) r) k in
+    elim (lt-or-ge k (length (drop h hist))) [
+      | inl u ↦ rw (e, lt-ltb k (length (drop h hist)) u) (R .full (h + k) (omega arith) (omega (arith, u, length-drop h hist)))
+      | inr u ↦ rw (e, le-ltb k (length (drop h hist)) u) (R .free (h + k) (omega (arith, u, length-drop h hist)) (omega arith))
+    ]
+
 -- what the host has read of the oldest response, before it gives the slot back
 in-hand : (g : Site) (end : ℕ) (b : Bounds) (w : World) (y : Past) → Inv g end b w y → (c : Cursor) → w .host .taker ≡ Taking H.Release c
     → (w .host .incoming ≡ padded (getD (plainOf w y .responses) 0 blank .text)) × (w .host .credits ≡ getD (plainOf w y .responses) 0 blank .credits)
@@ -156,6 +169,12 @@ promised b pool end bs St some es w x W r =
       response-in-hand =
           subst (λ (s : Play). (c : Cursor) → f .host .taker ≡ Taking H.Release c → (f .host .incoming ≡ padded (getD (s .plain .responses) 0 blank .text)) × (f .host .credits ≡ getD (s .plain .responses) 0 blank .credits)) (sym q)
           (in-hand g end bs f y (W .inv));
+      commands-owned =
+          subst (λ (s : Play). (k : ℕ) → k < slots (g .area) Command → waits Command (view g (f .memory) (slotWord Command ((f .port .counts .fetch + k) % slots (g .area) Command) 2)) ≡ ltb k (length (s .plain .commands))) (sym q)
+          (owned g Command (f .memory) (f .host .counts .send) (f .port .counts .fetch) (y .sent) (y .fetched) (y .fetched) (W .inv .commands));
+      responses-owned =
+          subst (λ (s : Play). (k : ℕ) → k < slots (g .area) Response → waits Response (view g (f .memory) (slotWord Response ((f .host .counts .take + k) % slots (g .area) Response) 2)) ≡ ltb k (length (s .plain .responses))) (sym q)
+          (owned g Response (f .memory) (f .port .counts .post) (f .host .counts .take) (y .posted) (y .taken) (wholeFrom (y .taken) (f .host .taker)) (W .inv .responses));
       quiet = sa-zero (f .port) (g .area) (W .inv .agreed .go) (W .inv .agreed .port-runs);
       calm = W .calm;
     }

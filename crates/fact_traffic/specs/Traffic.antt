@@ -2,7 +2,7 @@
 use Prim.Native.Nat.{ℕ, _+_, _%_, _≤_, _<_}
 use mathlib.Core.Path.{_≡_}
 use mathlib.Core.Bool.{Bool, true, false, not, _||_}
-use lib.Dec.{eqb}
+use lib.Dec.{eqb, ltb}
 use mathlib.Core.List.{List, [], _∷_}
 use lib.ListN.{length, getD}
 use Rattle.base_side.specs.Step.{stepped}
@@ -22,8 +22,8 @@ use Rattle.host_state.specs.declared.state.Shake.the-variants.{Finished}
 use Rattle.host_state.specs.declared.state.Stage.the-variants.{Release}
 use Rattle.host_state.specs.declared.state.Side.the-variants.{At as Taking}
 use Rattle.fact_meeting.specs.Meeting.{Pair, opened, Sight, seesAll}
-use Rattle.fact_traffic.specs.Places.{Site, view}
-use Rattle.fact_traffic.specs.Rings.{Letter, blank}
+use Rattle.fact_traffic.specs.Places.{slotWord, Site, view}
+use Rattle.fact_traffic.specs.Rings.{Letter, waits, blank}
 use Rattle.fact_traffic.specs.World.{World, world, Ev, Proper, Ans, call, word, asked, act, Halves, answers, final}
 use Rattle.fact_traffic.specs.Play.{Job, idle, waiting, over, Moment, Play, game, plays, ends, logs}
 use Rattle.fact_traffic.specs.Watch.{watch, momentsOf}
@@ -111,6 +111,13 @@ pub record Promise (f : Halves) (g : Site) (b : Bounds) (es : List Ev) (w : Worl
       → Letter (view g (final f es w .memory)) Response ((final f es w .host .counts .take + k) % slots (g .area) Response) (getD (reckoned f b es w s .responses) k blank)
   pub response-in-hand : (c : Cursor) → final f es w .host .taker ≡ Taking Release c
       → (final f es w .host .incoming ≡ padded (getD (reckoned f b es w s .responses) 0 blank .text)) × (final f es w .host .credits ≡ getD (reckoned f b es w s .responses) 0 blank .credits)
+  -- and the owner bits: from the taker's slot on, as many slots hold a message as the queue has, and no other
+  pub commands-owned : (k : ℕ) → k < slots (g .area) Command
+      → waits Command (view g (final f es w .memory) (slotWord Command ((final f es w .port .counts .fetch + k) % slots (g .area) Command) 2))
+      ≡ ltb k (length (reckoned f b es w s .commands))
+  pub responses-owned : (k : ℕ) → k < slots (g .area) Response
+      → waits Response (view g (final f es w .memory) (slotWord Response ((final f es w .host .counts .take + k) % slots (g .area) Response) 2))
+      ≡ ltb k (length (reckoned f b es w s .responses))
   -- no fatal error: SA reads 0, and no call answers 9 or 10 or a fatal code
   pub quiet : saOf (final f es w .port) ≡ 0
   pub calm : AllCalm (answers f es w)
