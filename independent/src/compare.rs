@@ -7,6 +7,7 @@ use std::process::{Command, Stdio};
 
 use crate::coverage::Coverage;
 use crate::generate;
+use crate::notes;
 use crate::random::Random;
 use crate::schedule;
 use crate::script::{self, NoWatch};
@@ -78,19 +79,20 @@ fn leading_part(batch: &str, line: usize) -> String {
     lines[start..].join("\n")
 }
 
-fn compare_batch(batch: &str, command: &str, coverage: &mut Coverage) -> Result<(), Trouble> {
-    let expected = script::replay(batch.as_bytes(), coverage);
-    let got = run(command, batch.as_bytes())?;
+fn compare_script(input: &[u8], command: &str, coverage: &mut Coverage) -> Result<(), Trouble> {
+    let expected = script::replay(input, coverage);
+    let got = run(command, input)?;
     let got = String::from_utf8_lossy(&got);
     match parting(&expected, &got) {
         None => Ok(()),
         Some((_, our, their)) => {
+            let input = String::from_utf8_lossy(input);
             let line = script_line(our)
                 .or(script_line(their))
-                .unwrap_or(batch.lines().count());
+                .unwrap_or(input.lines().count());
             Err(format!(
                 "{}\n# expected {}\n# got      {}\n",
-                leading_part(batch, line),
+                leading_part(&input, line),
                 shown(our),
                 shown(their)
             ))
@@ -128,13 +130,17 @@ pub fn random(
     for _ in 0..scripts {
         let next = generate::script(&mut source);
         if !batch.is_empty() && batch.len() + next.len() > BATCH {
-            compare_batch(&batch, replay, &mut coverage)?;
+            compare_script(batch.as_bytes(), replay, &mut coverage)?;
             batch.clear();
         }
         batch.push_str(&next);
     }
     if !batch.is_empty() {
-        compare_batch(&batch, replay, &mut coverage)?;
+        compare_script(batch.as_bytes(), replay, &mut coverage)?;
+    }
+    let spoiled = scripts / 2;
+    for _ in 0..spoiled {
+        compare_script(&generate::spoiled(&mut source), replay, &mut coverage)?;
     }
     for _ in 0..schedules {
         let input = generate::schedule(&mut source);
@@ -147,8 +153,8 @@ pub fn random(
         return Err(format!("{table}never reached: {}\n", missed.join(", ")));
     }
     Ok(format!(
-        "compared {scripts} scripts ({} calls) and {schedules} schedules, seed {seed}: \
-         no difference\n{table}",
+        "compared {scripts} scripts ({} calls), {spoiled} with a spoiled line and {schedules} \
+         schedules, seed {seed}: no difference\n{table}",
         coverage.calls
     ))
 }
@@ -216,6 +222,10 @@ pub fn stored(folder: &str, replay: &str, schedule: &str) -> Result<String, Trou
         let stored = String::from_utf8_lossy(&stored);
         let input = read(&path)?;
         let own = script::replay(&input, &mut NoWatch);
+        if let Some((line, printed)) = notes::wrong(&String::from_utf8_lossy(&input), &own) {
+            let path = path.display();
+            return Err(format!("{path}: line {line} is wrong\nprinted {printed}\n"));
+        }
         agree(&out, &stored, "independent", own.as_bytes())?;
         agree(&out, &stored, "program", &run(replay, &input)?)?;
         count += 1;

@@ -3,7 +3,7 @@
 use crate::host::Host;
 use crate::port::Phase;
 use crate::reply::{Act, Refusal, Reply};
-use crate::script::{Answer, Call, Scene, Watch};
+use crate::script::{Answer, Call, Reason, Scene, Watch};
 use crate::words;
 
 pub struct Coverage {
@@ -49,6 +49,7 @@ fn wanted() -> Vec<String> {
         "bad envelope by",
         &["length", "type", "connection", "account"],
     );
+    all("not a call:", &Reason::ALL.map(Reason::said));
     names
 }
 
@@ -183,6 +184,10 @@ impl Coverage {
 }
 
 impl Watch for Coverage {
+    fn stopped(&mut self, reason: Reason) {
+        self.count("not a call:", reason.said());
+    }
+
     fn saw(&mut self, call: &Call, answer: &Answer, scene: &Scene) {
         match answer {
             Answer::Nothing | Answer::Bytes(_) => {}

@@ -1,7 +1,10 @@
 //! Random scripts and schedules.
 
 mod damage;
+mod spoiled;
 mod writer;
+
+pub use spoiled::spoiled;
 
 use crate::host::Host;
 use crate::memory;
@@ -28,9 +31,13 @@ pub fn script(random: &mut Random) -> String {
         97 => writer.long_run(),
         _ => writer.far_end(),
     }
-    let mut text = writer.lines.join("\n");
-    text.push('\n');
-    text
+    // "a line may end with CR LF as well"
+    let end = if writer.random.chance(10) {
+        "\r\n"
+    } else {
+        "\n"
+    };
+    writer.lines.join(end) + end
 }
 
 /// The families of scripts.

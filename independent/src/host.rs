@@ -8,6 +8,8 @@ use crate::words;
 /// "the host's envelopes are 64 bytes each"
 const ENVELOPE: u32 = 64;
 
+// A finished half is nearly all of a host's life: its state stands here, not behind a box.
+#[allow(clippy::large_enum_variant)]
 pub enum Host {
     /// Before the first beginning, or after the second mishap.
     Dead,
@@ -42,18 +44,20 @@ pub struct Finished {
 /// What a send's next step touches.
 #[derive(Clone, Copy, PartialEq, Eq, Debug)]
 pub enum SendStage {
-    Look,
+    High,
     Length,
     Header,
     Text,
     Low,
-    Give,
+    Release,
 }
 
 pub struct Send {
     pub stage: SendStage,
     pub slot: u8,
     pub high: u16,
+    /// The address of text-4.
+    pub envelope: u32,
     pub at: usize,
     pub flag: bool,
     pub text: Text,
@@ -62,18 +66,20 @@ pub struct Send {
 /// What a take's next step touches.
 #[derive(Clone, Copy, PartialEq, Eq, Debug)]
 pub enum TakeStage {
-    Look,
+    High,
     Length,
     Header,
     Text,
     Refill,
-    Give,
+    Release,
 }
 
 pub struct Take {
     pub stage: TakeStage,
     pub slot: u8,
     pub high: u16,
+    /// The address of text-4.
+    pub envelope: u32,
     /// The length as read; it may be over 60 until the header is looked at.
     pub size: u16,
     pub at: usize,
@@ -348,9 +354,10 @@ impl Finished {
             return Err(Refusal::Busy);
         }
         self.send = Some(Send {
-            stage: SendStage::Look,
+            stage: SendStage::High,
             slot: self.send_slot,
             high: 0,
+            envelope: envelope_at(self.pool, &self.area, Ring::Command, self.send_slot),
             at: 0,
             flag,
             text: Text::of(text).ok_or(Refusal::TooLong)?,
@@ -363,9 +370,10 @@ impl Finished {
             return Err(Refusal::Busy);
         }
         self.take = Some(Take {
-            stage: TakeStage::Look,
+            stage: TakeStage::High,
             slot: self.take_slot,
             high: 0,
+            envelope: envelope_at(self.pool, &self.area, Ring::Response, self.take_slot),
             size: 0,
             at: 0,
             credits: 0,
@@ -379,10 +387,10 @@ impl Finished {
         let Some(send) = &mut self.send else {
             return Err(Refusal::IdleSide);
         };
-        let envelope = envelope_at(self.pool, &self.area, Ring::Command, send.slot);
+        let envelope = send.envelope;
         let descriptor = self.area.slot(Ring::Command, send.slot);
         match send.stage {
-            SendStage::Look => {
+            SendStage::High => {
                 // "5 comes before the read that could give 10"
                 if self.account == 0 {
                     return Err(Refusal::NoCredit);
@@ -413,9 +421,9 @@ impl Finished {
                 memory
                     .write(descriptor, words::low_word(envelope + 4))
                     .ok_or(outside)?;
-                send.stage = SendStage::Give;
+                send.stage = SendStage::Release;
             }
-            SendStage::Give => {
+            SendStage::Release => {
                 let high = words::with_address(send.high, envelope + 4);
                 memory
                     .write(descriptor + 2, words::given_to_port(high, send.flag))
@@ -434,10 +442,10 @@ impl Finished {
         let Some(take) = &mut self.take else {
             return Err(Refusal::IdleSide);
         };
-        let envelope = envelope_at(self.pool, &self.area, Ring::Response, take.slot);
+        let envelope = take.envelope;
         let descriptor = self.area.slot(Ring::Response, take.slot);
         match take.stage {
-            TakeStage::Look => {
+            TakeStage::High => {
                 take.high = memory.read(descriptor + 2).ok_or(outside)?;
                 if words::port_owns(take.high) {
                     return Err(Refusal::Empty);
@@ -470,9 +478,9 @@ impl Finished {
             }
             TakeStage::Refill => {
                 memory.write(envelope, words::TEXT as u16).ok_or(outside)?;
-                take.stage = TakeStage::Give;
+                take.stage = TakeStage::Release;
             }
-            TakeStage::Give => {
+            TakeStage::Release => {
                 memory
                     .write(descriptor + 2, words::given_to_port(take.high, true))
                     .ok_or(outside)?;

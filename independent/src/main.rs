@@ -9,6 +9,7 @@ mod examples;
 mod generate;
 mod host;
 mod memory;
+mod notes;
 mod port;
 mod random;
 mod reply;

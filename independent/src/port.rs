@@ -14,7 +14,7 @@ pub struct Port {
     pub phase: Phase,
 }
 
-// A running port is nearly all of a port's life: its state stands in place, not behind a box.
+// A running port is nearly all of a port's life: its state stands here, not behind a box.
 #[allow(clippy::large_enum_variant)]
 pub enum Phase {
     Step1,

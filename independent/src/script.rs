@@ -57,105 +57,175 @@ pub enum Call {
     Clear(Ring),
 }
 
-/// "A number is decimal, or hexadecimal after `0x`; at most 4294967295."
-fn number(word: &str) -> Option<u32> {
-    let (digits, radix) = match word.strip_prefix("0x") {
+/// Why a line is not a call. Lines are read from left to right: the first reason counts.
+#[derive(Clone, Copy, PartialEq, Eq, Debug)]
+pub enum Reason {
+    NoSuchWord,
+    NumberMissing,
+    NotANumber,
+    NumberTooLarge,
+    TextMissing,
+    NotAText,
+    TextTooLong,
+    SomethingFollows,
+}
+
+impl Reason {
+    pub const ALL: [Reason; 8] = [
+        Reason::NoSuchWord,
+        Reason::NumberMissing,
+        Reason::NotANumber,
+        Reason::NumberTooLarge,
+        Reason::TextMissing,
+        Reason::NotAText,
+        Reason::TextTooLong,
+        Reason::SomethingFollows,
+    ];
+
+    pub fn said(self) -> &'static str {
+        match self {
+            Reason::NoSuchWord => "no such word",
+            Reason::NumberMissing => "a number is missing",
+            Reason::NotANumber => "not a number",
+            Reason::NumberTooLarge => "the number is too large",
+            Reason::TextMissing => "a text is missing",
+            Reason::NotAText => "not a text",
+            Reason::TextTooLong => "the text is longer than 64 bytes",
+            Reason::SomethingFollows => "something follows",
+        }
+    }
+}
+
+/// "A number is decimal, or hexadecimal after `0x`, in digits of either case; leading zeros are
+/// allowed; at most 4294967295, and at most what its place takes".
+fn number(word: &[u8], most: u32) -> Result<u32, Reason> {
+    let (digits, radix) = match word.strip_prefix(b"0x") {
         Some(digits) => (digits, 16),
         None => (word, 10),
     };
-    // The library's own reading would let a sign pass.
-    if digits.starts_with('+') {
-        return None;
+    let digits: Vec<u32> = digits
+        .iter()
+        .map(|digit| char::from(*digit).to_digit(radix))
+        .collect::<Option<_>>()
+        .filter(|digits: &Vec<u32>| !digits.is_empty())
+        .ok_or(Reason::NotANumber)?;
+    digits
+        .iter()
+        .try_fold(0u32, |value, digit| {
+            value.checked_mul(radix)?.checked_add(*digit)
+        })
+        .filter(|value| *value <= most)
+        .ok_or(Reason::NumberTooLarge)
+}
+
+/// "A text is `-` (no byte) or two hexadecimal digits for each byte, at most 64 bytes"; a word of
+/// more than 128 characters is too long, whatever they are.
+fn text(word: &[u8]) -> Result<Vec<u8>, Reason> {
+    if word == b"-" {
+        return Ok(Vec::new());
     }
-    u32::from_str_radix(digits, radix).ok()
-}
-
-fn byte(word: &str) -> Option<u8> {
-    number(word)?.try_into().ok()
-}
-
-fn word16(word: &str) -> Option<u16> {
-    number(word)?.try_into().ok()
-}
-
-fn bit(word: &str) -> Option<bool> {
-    match number(word)? {
-        0 => Some(false),
-        1 => Some(true),
-        _ => None,
-    }
-}
-
-fn at_most(word: &str, most: u32) -> Option<u32> {
-    number(word).filter(|value| *value <= most)
-}
-
-fn text(word: &str) -> Option<Vec<u8>> {
-    if word == "-" {
-        return Some(Vec::new());
+    if word.len() > 2 * LONGEST_TEXT {
+        return Err(Reason::TextTooLong);
     }
     let digits: Vec<u8> = word
-        .chars()
-        .map(|digit| digit.to_digit(16).map(|value| value as u8))
-        .collect::<Option<_>>()?;
-    if digits.is_empty() || !digits.len().is_multiple_of(2) || digits.len() > 2 * LONGEST_TEXT {
-        return None;
+        .iter()
+        .map(|digit| char::from(*digit).to_digit(16).map(|value| value as u8))
+        .collect::<Option<_>>()
+        .ok_or(Reason::NotAText)?;
+    if digits.is_empty() || !digits.len().is_multiple_of(2) {
+        return Err(Reason::NotAText);
     }
-    Some(
-        digits
-            .chunks(2)
-            .map(|pair| pair[0] << 4 | pair[1])
-            .collect(),
-    )
+    Ok(digits
+        .chunks(2)
+        .map(|pair| pair[0] << 4 | pair[1])
+        .collect())
+}
+
+/// The words after the first.
+struct Words<'a>(std::slice::Split<'a, u8, fn(&u8) -> bool>);
+
+impl<'a> Words<'a> {
+    fn number(&mut self, most: u32) -> Result<u32, Reason> {
+        number(self.0.next().ok_or(Reason::NumberMissing)?, most)
+    }
+
+    fn any(&mut self) -> Result<u32, Reason> {
+        self.number(u32::MAX)
+    }
+
+    fn bit(&mut self) -> Result<bool, Reason> {
+        Ok(self.number(1)? == 1)
+    }
+
+    fn byte(&mut self) -> Result<u8, Reason> {
+        Ok(self.number(255)? as u8)
+    }
+
+    fn word(&mut self) -> Result<u16, Reason> {
+        Ok(self.number(65_535)? as u16)
+    }
+
+    fn text(&mut self) -> Result<Vec<u8>, Reason> {
+        text(self.0.next().ok_or(Reason::TextMissing)?)
+    }
+
+    /// "The four step calls may carry a number".
+    fn times(&mut self) -> Result<u32, Reason> {
+        match self.0.next() {
+            None => Ok(1),
+            Some(word) => number(word, MOST_STEPS),
+        }
+    }
 }
 
 impl Call {
-    /// None if the line is not a call.
-    pub fn parse(line: &str) -> Option<Call> {
-        let words: Vec<&str> = line.split(' ').collect();
-        Some(match words[..] {
-            ["new"] => Call::New,
-            ["memory", length] => Call::Memory(at_most(length, MOST_LENT as u32)? as usize),
-            ["fill", value] => Call::Fill(byte(value)?),
-            ["poke", address, word] => Call::Poke(number(address)?, word16(word)?),
-            ["peek", address, count] => Call::Peek(number(address)?, at_most(count, MOST_PEEKED)?),
-            ["create", nv, qb, di, version, limit] => Call::Create {
-                nv: bit(nv)?,
-                qb: bit(qb)?,
-                di: bit(di)?,
-                version: byte(version)?,
-                limit: byte(limit)?,
+    pub fn parse(line: &[u8]) -> Result<Call, Reason> {
+        let space: fn(&u8) -> bool = |byte| *byte == b' ';
+        let mut words = Words(line.split(space));
+        let first = words.0.next().unwrap_or_default();
+        let call = match first {
+            b"new" => Call::New,
+            b"memory" => Call::Memory(words.number(MOST_LENT as u32)? as usize),
+            b"fill" => Call::Fill(words.byte()?),
+            b"poke" => Call::Poke(words.any()?, words.word()?),
+            b"peek" => Call::Peek(words.any()?, words.number(MOST_PEEKED)?),
+            b"create" => Call::Create {
+                nv: words.bit()?,
+                qb: words.bit()?,
+                di: words.bit()?,
+                version: words.byte()?,
+                limit: words.byte()?,
             },
-            ["write-ip"] => Call::WriteIp,
-            ["read-sa"] => Call::ReadSa,
-            ["write-sa", word] => Call::WriteSa(word16(word)?),
-            ["begin-fetch"] => Call::BeginFetch,
-            ["step-fetch"] => Call::StepFetch(1),
-            ["step-fetch", times] => Call::StepFetch(at_most(times, MOST_STEPS)?),
-            ["begin-answer", bytes] => Call::BeginAnswer(text(bytes)?),
-            ["begin-unsolicited", bytes] => Call::BeginUnsolicited(text(bytes)?),
-            ["step-post"] => Call::StepPost(1),
-            ["step-post", times] => Call::StepPost(at_most(times, MOST_STEPS)?),
-            ["begin", command, response, ie, vector, base] => Call::Begin {
-                command: byte(command)?,
-                response: byte(response)?,
-                ie: bit(ie)?,
-                vector: byte(vector)?,
-                base: number(base)?,
+            b"write-ip" => Call::WriteIp,
+            b"read-sa" => Call::ReadSa,
+            b"write-sa" => Call::WriteSa(words.word()?),
+            b"begin-fetch" => Call::BeginFetch,
+            b"step-fetch" => Call::StepFetch(words.times()?),
+            b"begin-answer" => Call::BeginAnswer(words.text()?),
+            b"begin-unsolicited" => Call::BeginUnsolicited(words.text()?),
+            b"step-post" => Call::StepPost(words.times()?),
+            b"begin" => Call::Begin {
+                command: words.byte()?,
+                response: words.byte()?,
+                ie: words.bit()?,
+                vector: words.byte()?,
+                base: words.any()?,
             },
-            ["sa-seen", word] => Call::SaSeen(word16(word)?),
-            ["time-is-up"] => Call::TimeIsUp,
-            ["set-up", pool] => Call::SetUp(number(pool)?),
-            ["begin-send", flag, bytes] => Call::BeginSend(bit(flag)?, text(bytes)?),
-            ["step-send"] => Call::StepSend(1),
-            ["step-send", times] => Call::StepSend(at_most(times, MOST_STEPS)?),
-            ["begin-take"] => Call::BeginTake,
-            ["step-take"] => Call::StepTake(1),
-            ["step-take", times] => Call::StepTake(at_most(times, MOST_STEPS)?),
-            ["clear-command"] => Call::Clear(Ring::Command),
-            ["clear-response"] => Call::Clear(Ring::Response),
-            _ => return None,
-        })
+            b"sa-seen" => Call::SaSeen(words.word()?),
+            b"time-is-up" => Call::TimeIsUp,
+            b"set-up" => Call::SetUp(words.any()?),
+            b"begin-send" => Call::BeginSend(words.bit()?, words.text()?),
+            b"step-send" => Call::StepSend(words.times()?),
+            b"begin-take" => Call::BeginTake,
+            b"step-take" => Call::StepTake(words.times()?),
+            b"clear-command" => Call::Clear(Ring::Command),
+            b"clear-response" => Call::Clear(Ring::Response),
+            _ => return Err(Reason::NoSuchWord),
+        };
+        match words.0.next() {
+            None => Ok(call),
+            Some(_) => Err(Reason::SomethingFollows),
+        }
     }
 
     /// How often the call is made.
@@ -298,6 +368,8 @@ impl Scene {
 /// Sees each call once it is made.
 pub trait Watch {
     fn saw(&mut self, call: &Call, answer: &Answer, scene: &Scene);
+    /// The script ended with a line that is not a call.
+    fn stopped(&mut self, reason: Reason);
 }
 
 /// For those who only want the lines.
@@ -305,6 +377,7 @@ pub struct NoWatch;
 
 impl Watch for NoWatch {
     fn saw(&mut self, _: &Call, _: &Answer, _: &Scene) {}
+    fn stopped(&mut self, _: Reason) {}
 }
 
 /// What a script prints.
@@ -315,12 +388,21 @@ pub fn replay(script: &[u8], watch: &mut impl Watch) -> String {
     let mut out = String::new();
     let mut scene = Scene::new();
     for (line, bytes) in (1..).zip(script.split(|byte| *byte == b'\n')) {
+        // "a line may end with CR LF as well"
+        let bytes = bytes.strip_suffix(b"\r").unwrap_or(bytes);
         if bytes.is_empty() || bytes[0] == b'#' {
             continue;
         }
-        let Some(call) = std::str::from_utf8(bytes).ok().and_then(Call::parse) else {
-            put(&mut out, format_args!("{line}: not a call\n"));
-            break;
+        let call = match Call::parse(bytes) {
+            Ok(call) => call,
+            Err(reason) => {
+                put(
+                    &mut out,
+                    format_args!("{line}: not a call: {}\n", reason.said()),
+                );
+                watch.stopped(reason);
+                break;
+            }
         };
         for _ in 0..call.times() {
             let answer = scene.make(&call);

@@ -1,16 +1,16 @@
 //! How answers and states are printed.
 
-use std::fmt::{self, Display, Write};
+use std::fmt::{self, Display, Formatter, Write};
 
-use crate::host::{Host, Send, SendStage, Take, TakeStage};
-use crate::port::{Operation, Phase, Port, Stage};
+use crate::host::{Finished, Host, Send, SendStage, Take, TakeStage};
+use crate::port::{Operation, Phase, Port, Running, Stage};
 use crate::reply::{Act, Reply, Text};
 
 /// "The bytes are printed up to the last that is not 0, or `-` if all are 0."
 struct ShownBytes<'a>(&'a Text);
 
 impl Display for ShownBytes<'_> {
-    fn fmt(&self, out: &mut fmt::Formatter) -> fmt::Result {
+    fn fmt(&self, out: &mut Formatter) -> fmt::Result {
         match self.0.bytes.iter().rposition(|byte| *byte != 0) {
             None => out.write_char('-'),
             Some(last) => self.0.bytes[..=last]
@@ -23,7 +23,7 @@ impl Display for ShownBytes<'_> {
 pub struct ShownReply<'a>(pub &'a Reply);
 
 impl Display for ShownReply<'_> {
-    fn fmt(&self, out: &mut fmt::Formatter) -> fmt::Result {
+    fn fmt(&self, out: &mut Formatter) -> fmt::Result {
         match self.0 {
             Reply::Going => out.write_str("going 0 -")?,
             Reply::Done { .. } => out.write_str("done 0 -")?,
@@ -43,7 +43,7 @@ impl Display for ShownReply<'_> {
 pub struct ShownAct(pub Act);
 
 impl Display for ShownAct {
-    fn fmt(&self, out: &mut fmt::Formatter) -> fmt::Result {
+    fn fmt(&self, out: &mut Formatter) -> fmt::Result {
         match self.0 {
             Act::WriteIp => out.write_str("write-ip"),
             Act::WriteSa(word) => write!(out, "write-sa {word:04x}"),
@@ -51,74 +51,122 @@ impl Display for ShownAct {
             Act::Dead => out.write_str("dead"),
             Act::None => out.write_str("none"),
             Act::PortFailed(code) => write!(out, "port-failed {code}"),
-            Act::Refused(refusal) => write!(out, "refused {}", refusal as u8),
+            // "all return length 0 and 60 zero bytes"
+            Act::Refused(refusal) => write!(out, "refused {} 0 -", refusal as u8),
         }
+    }
+}
+
+/// The items of a state, each ` name=value`; "what is 0, idle or empty is left out".
+struct Items<'a, 'b> {
+    out: &'a mut Formatter<'b>,
+    /// The side whose items are next; "" for those of the half itself.
+    side: &'static str,
+}
+
+impl Items<'_, '_> {
+    fn item(&mut self, name: &str, value: impl Display) -> fmt::Result {
+        match self.side {
+            "" => write!(self.out, " {name}={value}"),
+            side => write!(self.out, " {side}.{name}={value}"),
+        }
+    }
+
+    fn number(&mut self, name: &str, value: impl Into<u32>) -> fmt::Result {
+        match value.into() {
+            0 => Ok(()),
+            value => self.item(name, value),
+        }
+    }
+
+    fn word(&mut self, name: &str, value: u16) -> fmt::Result {
+        match value {
+            0 => Ok(()),
+            value => self.item(name, format_args!("{value:04x}")),
+        }
+    }
+
+    fn text(&mut self, value: &Text) -> fmt::Result {
+        if value.bytes.iter().all(|byte| *byte == 0) {
+            return Ok(());
+        }
+        self.item("text", ShownBytes(value))
+    }
+
+    /// The words that the host wrote, or will have written when it gets to GO.
+    fn words(&mut self, words: &[u16]) -> fmt::Result {
+        for (name, word) in ["first", "second", "third", "go"].into_iter().zip(words) {
+            self.word(name, *word)?;
+        }
+        Ok(())
+    }
+
+    /// A side that has an operation, and what that stands at.
+    fn stage(&mut self, side: &'static str, stage: &str) -> fmt::Result {
+        self.side = "";
+        self.item(side, stage)?;
+        self.side = side;
+        Ok(())
     }
 }
 
 pub struct ShownPort<'a>(pub &'a Port);
 
 impl Display for ShownPort<'_> {
-    fn fmt(&self, out: &mut fmt::Formatter) -> fmt::Result {
+    fn fmt(&self, out: &mut Formatter) -> fmt::Result {
         let port = self.0;
-        write!(
-            out,
-            "port {} {} {} {} {} ",
-            u8::from(port.nv),
-            u8::from(port.qb),
-            u8::from(port.di),
-            port.version,
-            port.limit
-        )?;
+        out.write_str("port")?;
+        let mut items = Items { out, side: "" };
+        items.number("nv", port.nv)?;
+        items.number("qb", port.qb)?;
+        items.number("di", port.di)?;
+        items.number("version", port.version)?;
+        items.number("limit", port.limit)?;
         match &port.phase {
-            Phase::Step1 => out.write_str("step1"),
-            Phase::Wrap(word) => write!(out, "wrap {word:04x}"),
-            Phase::Step2(first) => write!(out, "step2 {first:04x}"),
-            Phase::Step3(first, second) => write!(out, "step3 {first:04x} {second:04x}"),
+            Phase::Step1 => items.item("phase", "step1"),
+            Phase::Wrap(shown) => {
+                items.item("phase", "wrap")?;
+                items.word("shown", *shown)
+            }
+            Phase::Step2(first) => {
+                items.item("phase", "step2")?;
+                items.words(&[*first])
+            }
+            Phase::Step3(first, second) => {
+                items.item("phase", "step3")?;
+                items.words(&[*first, *second])
+            }
             Phase::Step4(first, second, third) => {
-                write!(out, "step4 {first:04x} {second:04x} {third:04x}")
+                items.item("phase", "step4")?;
+                items.words(&[*first, *second, *third])
             }
-            Phase::Fatal(code) => write!(out, "fatal {}", *code as u8),
-            Phase::Running(running) => {
-                out.write_str("running ")?;
-                for word in running.words {
-                    write!(out, "{word:04x} ")?;
-                }
-                write!(
-                    out,
-                    "{} {} {} {} fetch {} post {}",
-                    running.fetch_slot,
-                    running.post_slot,
-                    running.owed,
-                    running.unanswered,
-                    ShownSide(&running.fetch),
-                    ShownSide(&running.post)
-                )
+            Phase::Fatal(code) => {
+                items.item("phase", "fatal")?;
+                items.number("fatal", *code as u8)
             }
+            Phase::Running(running) => items.running(running),
         }
     }
 }
 
-/// A side: `idle`, or its operation.
-struct ShownSide<'a, T>(&'a Option<T>);
-
-impl<T> Display for ShownSide<'_, T>
-where
-    for<'b> Shown<'b, T>: Display,
-{
-    fn fmt(&self, out: &mut fmt::Formatter) -> fmt::Result {
-        match self.0 {
-            None => out.write_str("idle"),
-            Some(operation) => Shown(operation).fmt(out),
+impl Items<'_, '_> {
+    fn running(&mut self, running: &Running) -> fmt::Result {
+        self.item("phase", "running")?;
+        self.words(&running.words)?;
+        self.number("fetch-slot", running.fetch_slot)?;
+        self.number("post-slot", running.post_slot)?;
+        self.number("owed", running.owed)?;
+        self.number("unanswered", running.unanswered)?;
+        if let Some(fetch) = &running.fetch {
+            self.operation("fetch", fetch)?;
         }
+        if let Some(post) = &running.post {
+            self.operation("post", post)?;
+        }
+        Ok(())
     }
-}
 
-struct Shown<'a, T>(&'a T);
-
-impl Display for Shown<'_, Operation> {
-    fn fmt(&self, out: &mut fmt::Formatter) -> fmt::Result {
-        let operation = self.0;
+    fn operation(&mut self, side: &'static str, operation: &Operation) -> fmt::Result {
         let stage = match operation.stage {
             Stage::High => "high",
             Stage::Low => "low",
@@ -129,98 +177,87 @@ impl Display for Shown<'_, Operation> {
             Stage::Test => "test",
             Stage::Mark => "mark",
         };
-        write!(
-            out,
-            "{stage} {} {:04x} {} {} {} {} {}",
-            operation.slot,
-            operation.high,
-            operation.envelope,
-            operation.size,
-            operation.at,
-            u8::from(operation.answers),
-            ShownBytes(&operation.text)
-        )
+        self.stage(side, stage)?;
+        self.number("slot", operation.slot)?;
+        self.word("high", operation.high)?;
+        self.number("envelope", operation.envelope)?;
+        self.number("size", operation.size)?;
+        self.number("at", operation.at as u32)?;
+        self.number("answers", operation.answers)?;
+        self.text(&operation.text)
     }
-}
 
-impl Display for Shown<'_, Send> {
-    fn fmt(&self, out: &mut fmt::Formatter) -> fmt::Result {
-        let send = self.0;
+    fn finished(&mut self, half: &Finished) -> fmt::Result {
+        self.item("handshake", "finished")?;
+        self.words(&half.words)?;
+        self.number("ready", half.ready)?;
+        self.number("pool", half.pool)?;
+        self.number("send-slot", half.send_slot)?;
+        self.number("take-slot", half.take_slot)?;
+        self.number("account", half.account)?;
+        if let Some(send) = &half.send {
+            self.send(send)?;
+        }
+        if let Some(take) = &half.take {
+            self.take(take)?;
+        }
+        Ok(())
+    }
+
+    fn send(&mut self, send: &Send) -> fmt::Result {
         let stage = match send.stage {
-            SendStage::Look => "look",
+            SendStage::High => "high",
             SendStage::Length => "length",
             SendStage::Header => "header",
             SendStage::Text => "text",
             SendStage::Low => "low",
-            SendStage::Give => "give",
+            SendStage::Release => "release",
         };
-        write!(
-            out,
-            "{stage} {} {:04x} {} {} {} 0 {}",
-            send.slot,
-            send.high,
-            send.text.length,
-            send.at,
-            u8::from(send.flag),
-            ShownBytes(&send.text)
-        )
+        self.stage("send", stage)?;
+        self.number("slot", send.slot)?;
+        self.word("high", send.high)?;
+        self.number("envelope", send.envelope)?;
+        self.number("size", send.text.length as u32)?;
+        self.number("at", send.at as u32)?;
+        self.number("flag", send.flag)?;
+        self.text(&send.text)
     }
-}
 
-impl Display for Shown<'_, Take> {
-    fn fmt(&self, out: &mut fmt::Formatter) -> fmt::Result {
-        let take = self.0;
+    fn take(&mut self, take: &Take) -> fmt::Result {
         let stage = match take.stage {
-            TakeStage::Look => "look",
+            TakeStage::High => "high",
             TakeStage::Length => "length",
             TakeStage::Header => "header",
             TakeStage::Text => "text",
             TakeStage::Refill => "refill",
-            TakeStage::Give => "give",
+            TakeStage::Release => "release",
         };
-        // "FLAG is the F asked of a send, 1 for a take".
-        write!(
-            out,
-            "{stage} {} {:04x} {} {} 1 {} {}",
-            take.slot,
-            take.high,
-            take.size,
-            take.at,
-            take.credits,
-            ShownBytes(&take.text)
-        )
+        self.stage("take", stage)?;
+        self.number("slot", take.slot)?;
+        self.word("high", take.high)?;
+        self.number("envelope", take.envelope)?;
+        self.number("size", take.size)?;
+        self.number("at", take.at as u32)?;
+        self.number("credits", take.credits)?;
+        self.text(&take.text)
     }
 }
 
 pub struct ShownHost<'a>(pub &'a Host);
 
 impl Display for ShownHost<'_> {
-    fn fmt(&self, out: &mut fmt::Formatter) -> fmt::Result {
+    fn fmt(&self, out: &mut Formatter) -> fmt::Result {
+        out.write_str("host")?;
+        let mut items = Items { out, side: "" };
         match self.0 {
-            Host::Dead => out.write_str("host dead"),
+            Host::Dead => items.item("handshake", "dead"),
             Host::Expecting(expecting) => {
-                let [first, second, third] = expecting.words;
-                write!(
-                    out,
-                    "host expect {} {} {first:04x} {second:04x} {third:04x}",
-                    expecting.step,
-                    u8::from(expecting.retried)
-                )
+                items.item("handshake", "expect")?;
+                items.number("step", expecting.step)?;
+                items.number("retried", expecting.retried)?;
+                items.words(&expecting.words)
             }
-            Host::Finished(half) => {
-                let [first, second, third] = half.words;
-                write!(
-                    out,
-                    "host finished {first:04x} {second:04x} {third:04x} {} {} {} {} {} send {} take {}",
-                    u8::from(half.ready),
-                    half.pool,
-                    half.send_slot,
-                    half.take_slot,
-                    half.account,
-                    ShownSide(&half.send),
-                    ShownSide(&half.take)
-                )
-            }
+            Host::Finished(half) => items.finished(half),
         }
     }
 }

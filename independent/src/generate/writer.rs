@@ -51,7 +51,7 @@ impl Writer<'_> {
     /// Writes a line and plays it.
     pub(super) fn say(&mut self, line: impl Into<String>) -> Answer {
         let line = line.into();
-        let call = Call::parse(&line).expect("the writer writes calls only");
+        let call = Call::parse(line.as_bytes()).expect("the writer writes calls only");
         let mut answer = Answer::Nothing;
         for _ in 0..call.times() {
             answer = self.scene.make(&call);
@@ -98,7 +98,7 @@ impl Writer<'_> {
                     let envelope = half.pool + 64 * before;
                     let descriptor = area.slot(Ring::Command, send.slot);
                     match send.stage {
-                        SendStage::Look | SendStage::Give => descriptor + 2,
+                        SendStage::High | SendStage::Release => descriptor + 2,
                         SendStage::Low => descriptor,
                         SendStage::Length => envelope,
                         SendStage::Header => envelope + 2,
@@ -109,7 +109,7 @@ impl Writer<'_> {
                     let take = half.take.as_ref()?;
                     let envelope = half.pool + 64 * u32::from(take.slot);
                     match take.stage {
-                        TakeStage::Look | TakeStage::Give => {
+                        TakeStage::High | TakeStage::Release => {
                             area.slot(Ring::Response, take.slot) + 2
                         }
                         TakeStage::Length | TakeStage::Refill => envelope,
@@ -461,12 +461,12 @@ impl Writer<'_> {
                 let send = half.send.as_ref()?;
                 let words = words(send.text.length as u16, send.at);
                 Some(match send.stage {
-                    SendStage::Look => 1,
+                    SendStage::High => 1,
                     SendStage::Length => words + 4,
                     SendStage::Header => words + 3,
                     SendStage::Text => words + 2,
                     SendStage::Low => 2,
-                    SendStage::Give => 1,
+                    SendStage::Release => 1,
                 })
             }),
             Side::Take => self.finished().and_then(|half| {
