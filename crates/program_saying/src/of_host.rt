@@ -1,17 +1,15 @@
 // The state of a host.
-use crate::of_port;
+use crate::item;
+use crate::item::Stand;
 use crate::part;
-use host_state::state::Counts;
-use host_state::state::Cursor;
+use base_area::Area;
 use host_state::state::Host;
-use host_state::state::SendStage;
-use host_state::state::Sender;
 use host_state::state::Shake;
+use host_state::state::Side;
+use host_state::state::Stage;
 use host_state::state::Step;
-use host_state::state::TakeStage;
-use host_state::state::Taker;
 
-fn step_number(x: Step) -> u32 {
+fn step_number(x: Step) -> u64 {
     match x {
         Step::One => 1,
         Step::Two => 2,
@@ -20,111 +18,152 @@ fn step_number(x: Step) -> u32 {
     }
 }
 
-fn send_stage(out: &mut [u8; 65536], at: usize, x: SendStage) -> usize {
-    match x {
-        SendStage::Look => part::name(out, at, b"look"),
-        SendStage::Length => part::name(out, at, b"length"),
-        SendStage::Header => part::name(out, at, b"header"),
-        SendStage::Text => part::name(out, at, b"text"),
-        SendStage::Low => part::name(out, at, b"low"),
-        SendStage::Give => part::name(out, at, b"give"),
+// What a handshake is called, the step that it expects, and whether IP was written a second time.
+struct Shaking {
+    name: u64,
+    step: u64,
+    retried: bool,
+}
+
+fn shaking_at(name: u64, step: u64, retried: bool) -> Shaking {
+    Shaking {
+        name,
+        step,
+        retried,
     }
 }
 
-fn take_stage(out: &mut [u8; 65536], at: usize, x: TakeStage) -> usize {
+fn shaking_in(x: Shake) -> Shaking {
     match x {
-        TakeStage::Look => part::name(out, at, b"look"),
-        TakeStage::Length => part::name(out, at, b"length"),
-        TakeStage::Header => part::name(out, at, b"header"),
-        TakeStage::Text => part::name(out, at, b"text"),
-        TakeStage::Refill => part::name(out, at, b"refill"),
-        TakeStage::Give => part::name(out, at, b"give"),
+        Shake::Dead => shaking_at(item::DEAD, 0, false),
+        Shake::Expect(step, retried) => shaking_at(item::EXPECT, step_number(step), retried),
+        Shake::Finished => shaking_at(item::FINISHED, 0, false),
     }
 }
 
-// The number of the text word next touched; 0 at any other stage.
-fn send_at(x: SendStage, c: Cursor) -> u16 {
-    if let SendStage::Text = x { c.at } else { 0 }
+// The words of a host that has begun.
+fn words(name: u64, x: Area) -> Area {
+    if name == item::DEAD {
+        return Area {
+            first: 0,
+            second: 0,
+            third: 0,
+        };
+    }
+    x
 }
 
-fn take_at(x: TakeStage, c: Cursor) -> u16 {
-    if let TakeStage::Text = x { c.at } else { 0 }
-}
-
-// Where an operation stands.
-fn cursor(out: &mut [u8; 65536], at: usize, c: Cursor, k: u16, text: &[u8; 60]) -> usize {
-    let a = part::number(out, at, c.slot as u32);
-    let b = part::word(out, a, c.high);
-    let d = part::number(out, b, c.size as u32);
-    let e = part::number(out, d, k as u32);
-    let f = part::bit(out, e, c.flag);
-    let g = part::number(out, f, c.credits as u32);
-    part::bytes(out, g, text)
-}
-
-fn sender(out: &mut [u8; 65536], at: usize, x: Sender, text: &[u8; 60]) -> usize {
+// A stage; `closing` is what the word before the last is called.
+fn stage(x: Stage, closing: u64) -> u64 {
     match x {
-        Sender::NoSend => part::name(out, at, b"idle"),
-        Sender::Sending(s, c) => {
-            let k = send_stage(out, at, s);
-            cursor(out, k, c, send_at(s, c), text)
-        }
+        Stage::High => item::HIGH,
+        Stage::Length => item::LENGTH,
+        Stage::Header => item::HEADER,
+        Stage::Text => item::TEXT,
+        Stage::Closing => closing,
+        Stage::Release => item::RELEASE,
     }
 }
 
-fn taker(out: &mut [u8; 65536], at: usize, x: Taker, text: &[u8; 60]) -> usize {
+// Where a side stands, if the handshake is finished.
+fn side(name: u64, x: Side, closing: u64) -> Stand {
+    if name != item::FINISHED {
+        return item::idle();
+    }
     match x {
-        Taker::NoTake => part::name(out, at, b"idle"),
-        Taker::Taking(s, c) => {
-            let k = take_stage(out, at, s);
-            cursor(out, k, c, take_at(s, c), text)
-        }
+        Side::Idle => item::idle(),
+        Side::At(s, c) => item::stand_at(stage(s, closing), c),
     }
 }
 
-// The next slots and the account.
-fn counts(out: &mut [u8; 65536], at: usize, x: Counts) -> usize {
-    let a = part::number(out, at, x.send as u32);
-    let b = part::number(out, a, x.take as u32);
-    part::number(out, b, x.account as u32)
+// The credits of a take, once it has read the header.
+fn credits(stage: u64, n: u8) -> u64 {
+    match stage {
+        item::TEXT => n as u64,
+        item::REFILL => n as u64,
+        item::RELEASE => n as u64,
+        _ => 0,
+    }
 }
 
-// A host that has written GO.
-fn finished(out: &mut [u8; 65536], at: usize, h: Host) -> usize {
+// A number of a host whose handshake is finished.
+fn at_end(name: u64, n: u64) -> u64 {
+    if name == item::FINISHED { n } else { 0 }
+}
+
+// The items of a host itself.
+fn own(out: &mut [u8; 65536], at: usize, h: Host) -> usize {
+    let shake = h.shake;
+    let x = shaking_in(shake);
+    let w = words(x.name, h.area);
+    let c = h.counts;
+    let none = [0u8; 60];
+    let values = [
+        x.name,
+        x.step,
+        item::bit(x.retried),
+        w.first as u64,
+        w.second as u64,
+        w.third as u64,
+        at_end(x.name, item::bit(h.ready)),
+        at_end(x.name, h.pool as u64),
+        at_end(x.name, c.send as u64),
+        at_end(x.name, c.take as u64),
+        at_end(x.name, c.account as u64),
+    ];
+    item::items(
+        out,
+        at,
+        b"handshake,step,retried,first,second,third,ready,pool,send-slot,take-slot,account",
+        b"=##$$$#####",
+        &values,
+        &none,
+        &none,
+    )
+}
+
+// The items of its sides.
+fn sides(out: &mut [u8; 65536], at: usize, h: Host) -> usize {
+    let shake = h.shake;
+    let sender = h.sender;
+    let taker = h.taker;
     let outgoing = h.outgoing;
     let incoming = h.incoming;
-    let sending = h.sender;
-    let taking = h.taker;
-    let a = part::bit(out, at, h.ready);
-    let b = part::number(out, a, h.pool);
-    let c = counts(out, b, h.counts);
-    let d = part::name(out, c, b"send");
-    let e = sender(out, d, sending, &outgoing);
-    let f = part::name(out, e, b"take");
-    taker(out, f, taking, &incoming)
-}
-
-fn shake(out: &mut [u8; 65536], at: usize, h: Host) -> usize {
-    let x = h.shake;
-    let area = h.area;
-    match x {
-        Shake::Dead => part::name(out, at, b"dead"),
-        Shake::Expect(step, retried) => {
-            let a = part::name(out, at, b"expect");
-            let b = part::number(out, a, step_number(step));
-            let c = part::bit(out, b, retried);
-            of_port::three(out, c, area)
-        }
-        Shake::Finished => {
-            let a = part::name(out, at, b"finished");
-            let b = of_port::three(out, a, area);
-            finished(out, b, h)
-        }
-    }
+    let x = shaking_in(shake);
+    let s = side(x.name, sender, item::LOW);
+    let t = side(x.name, taker, item::REFILL);
+    let values = [
+        s.stage,
+        s.slot,
+        s.high,
+        s.envelope,
+        s.size,
+        s.at,
+        item::of_busy(s.stage, h.asked.flag),
+        item::extent(s.stage, &outgoing),
+        t.stage,
+        t.slot,
+        t.high,
+        t.envelope,
+        t.size,
+        t.at,
+        credits(t.stage, h.credits),
+        item::extent(t.stage, &incoming),
+    ];
+    item::items(
+        out,
+        at,
+        b"send,send.slot,send.high,send.envelope,send.size,send.at,send.flag,send.text,take,take.slot,take.high,take.envelope,take.size,take.at,take.credits,take.text",
+        b"=#$####<=#$####>",
+        &values,
+        &outgoing,
+        &incoming,
+    )
 }
 
 // A host: where its handshake stands, and its sides.
 pub fn state(out: &mut [u8; 65536], at: usize, h: Host) -> usize {
-    let k = part::name(out, at, b"host");
-    shake(out, k, h)
+    let a = part::name(out, at, b"host");
+    let b = own(out, a, h);
+    sides(out, b, h)
 }

@@ -1,149 +1,183 @@
 // The state of a port.
-use crate::answer;
+use crate::item;
+use crate::item::Stand;
 use crate::part;
-use base_area::Area;
 use port_state::state::Counts;
-use port_state::state::Cursor;
-use port_state::state::Fetcher;
-use port_state::state::Made;
 use port_state::state::Phase;
 use port_state::state::Port;
-use port_state::state::Poster;
+use port_state::state::Side;
 use port_state::state::Stage;
 use port_state::state::TailStage;
 
-// What creation gave.
-fn made(out: &mut [u8; 65536], at: usize, m: Made) -> usize {
-    let a = part::bit(out, at, m.nv);
-    let b = part::bit(out, a, m.qb);
-    let c = part::bit(out, b, m.di);
-    let d = part::number(out, c, m.version as u32);
-    part::number(out, d, m.limit as u32)
+// What a phase is called and holds; 0 for what it does not hold.
+struct Held {
+    name: u64,
+    fatal: u16,
+    shown: u16,
+    first: u16,
+    second: u16,
+    third: u16,
+    go: u16,
 }
 
-// The host's first three words.
-pub fn three(out: &mut [u8; 65536], at: usize, x: Area) -> usize {
-    let a = part::word(out, at, x.first);
-    let b = part::word(out, a, x.second);
-    part::word(out, b, x.third)
-}
-
-fn stage(out: &mut [u8; 65536], at: usize, x: Stage) -> usize {
-    match x {
-        Stage::High => part::name(out, at, b"high"),
-        Stage::Low => part::name(out, at, b"low"),
-        Stage::Length => part::name(out, at, b"length"),
-        Stage::Header => part::name(out, at, b"header"),
-        Stage::Text => part::name(out, at, b"text"),
-        Stage::Release => part::name(out, at, b"release"),
+// A phase with the words that the host wrote, so far.
+fn wrote(name: u64, first: u16, second: u16, third: u16, go: u16) -> Held {
+    Held {
+        name,
+        fatal: 0,
+        shown: 0,
+        first,
+        second,
+        third,
+        go,
     }
 }
 
-fn tail(out: &mut [u8; 65536], at: usize, x: TailStage) -> usize {
-    match x {
-        TailStage::Test => part::name(out, at, b"test"),
-        TailStage::Mark => part::name(out, at, b"mark"),
+// A phase in which no word of the host's counts.
+fn lone(name: u64, fatal: u16, shown: u16) -> Held {
+    Held {
+        name,
+        fatal,
+        shown,
+        first: 0,
+        second: 0,
+        third: 0,
+        go: 0,
     }
 }
 
-// The number of the text word next touched; 0 at any other stage.
-fn at_of(x: Stage, c: Cursor) -> u16 {
-    if let Stage::Text = x { c.at } else { 0 }
-}
-
-// Where an operation stands.
-fn cursor(out: &mut [u8; 65536], at: usize, c: Cursor, k: u16, text: &[u8; 60]) -> usize {
-    let a = part::number(out, at, c.slot as u32);
-    let b = part::word(out, a, c.high);
-    let d = part::number(out, b, c.envelope);
-    let e = part::number(out, d, c.size as u32);
-    let f = part::number(out, e, k as u32);
-    let g = part::bit(out, f, c.answers);
-    part::bytes(out, g, text)
-}
-
-fn fetcher(out: &mut [u8; 65536], at: usize, x: Fetcher, text: &[u8; 60]) -> usize {
+fn held_in(x: Phase) -> Held {
     match x {
-        Fetcher::NoFetch => part::name(out, at, b"idle"),
-        Fetcher::Fetching(s, c) => {
-            let k = stage(out, at, s);
-            cursor(out, k, c, at_of(s, c), text)
-        }
-        Fetcher::FetchTail(t, c) => {
-            let k = tail(out, at, t);
-            cursor(out, k, c, 0, text)
-        }
+        Phase::Step1 => lone(item::STEP1, 0, 0),
+        Phase::Wrap(shown) => lone(item::WRAP, 0, shown),
+        Phase::Step2(first) => wrote(item::STEP2, first, 0, 0, 0),
+        Phase::Step3(first, second) => wrote(item::STEP3, first, second, 0, 0),
+        Phase::Step4(area) => wrote(item::STEP4, area.first, area.second, area.third, 0),
+        Phase::Running(area, go) => wrote(item::RUNNING, area.first, area.second, area.third, go),
+        Phase::Failed(f) => lone(item::FATAL, base_answers::code(f), 0),
     }
 }
 
-fn poster(out: &mut [u8; 65536], at: usize, x: Poster, text: &[u8; 60]) -> usize {
+fn stage(x: Stage) -> u64 {
     match x {
-        Poster::NoPost => part::name(out, at, b"idle"),
-        Poster::Posting(s, c) => {
-            let k = stage(out, at, s);
-            cursor(out, k, c, at_of(s, c), text)
-        }
-        Poster::PostTail(t, c) => {
-            let k = tail(out, at, t);
-            cursor(out, k, c, 0, text)
-        }
+        Stage::High => item::HIGH,
+        Stage::Low => item::LOW,
+        Stage::Length => item::LENGTH,
+        Stage::Header => item::HEADER,
+        Stage::Text => item::TEXT,
+        Stage::Release => item::RELEASE,
     }
 }
 
-// The next slots, the credits still to grant, and the commands fetched and not answered.
-fn counts(out: &mut [u8; 65536], at: usize, x: Counts) -> usize {
-    let a = part::number(out, at, x.fetch as u32);
-    let b = part::number(out, a, x.post as u32);
-    let c = part::number(out, b, x.owed as u32);
-    part::number(out, c, x.unanswered as u32)
+fn tail(x: TailStage) -> u64 {
+    match x {
+        TailStage::Test => item::TEST,
+        TailStage::Mark => item::MARK,
+    }
 }
 
-// The sides of a port that runs.
+// Where a side stands, if the port runs.
+fn side(running: bool, x: Side) -> Stand {
+    if !running {
+        return item::idle();
+    }
+    match x {
+        Side::Idle => item::idle(),
+        Side::At(s, c) => item::stand_at(stage(s), c),
+        Side::Tail(t, c) => item::stand_at(tail(t), c),
+    }
+}
+
+// The counts of a port, if it runs.
+fn counts(running: bool, x: Counts) -> Counts {
+    if running {
+        return x;
+    }
+    Counts {
+        fetch: 0,
+        post: 0,
+        owed: 0,
+        unanswered: 0,
+    }
+}
+
+// The items of a port itself.
+fn own(out: &mut [u8; 65536], at: usize, p: Port) -> usize {
+    let m = p.made;
+    let phase = p.phase;
+    let h = held_in(phase);
+    let c = counts(h.name == item::RUNNING, p.counts);
+    let none = [0u8; 60];
+    let values = [
+        item::bit(m.nv),
+        item::bit(m.qb),
+        item::bit(m.di),
+        m.version as u64,
+        m.limit as u64,
+        h.name,
+        h.fatal as u64,
+        h.shown as u64,
+        h.first as u64,
+        h.second as u64,
+        h.third as u64,
+        h.go as u64,
+        c.fetch as u64,
+        c.post as u64,
+        c.owed as u64,
+        c.unanswered as u64,
+    ];
+    item::items(
+        out,
+        at,
+        b"nv,qb,di,version,limit,phase,fatal,shown,first,second,third,go,fetch-slot,post-slot,owed,unanswered",
+        b"#####=#$$$$$####",
+        &values,
+        &none,
+        &none,
+    )
+}
+
+// The items of its sides.
 fn sides(out: &mut [u8; 65536], at: usize, p: Port) -> usize {
+    let phase = p.phase;
+    let fetcher = p.fetcher;
+    let poster = p.poster;
     let incoming = p.incoming;
     let outgoing = p.outgoing;
-    let fetching = p.fetcher;
-    let posting = p.poster;
-    let a = counts(out, at, p.counts);
-    let b = part::name(out, a, b"fetch");
-    let c = fetcher(out, b, fetching, &incoming);
-    let d = part::name(out, c, b"post");
-    poster(out, d, posting, &outgoing)
+    let h = held_in(phase);
+    let f = side(h.name == item::RUNNING, fetcher);
+    let o = side(h.name == item::RUNNING, poster);
+    let values = [
+        f.stage,
+        f.slot,
+        f.high,
+        f.envelope,
+        f.size,
+        f.at,
+        item::extent(f.stage, &incoming),
+        o.stage,
+        o.slot,
+        o.high,
+        o.envelope,
+        o.size,
+        o.at,
+        item::of_busy(o.stage, p.asked.answers),
+        item::extent(o.stage, &outgoing),
+    ];
+    item::items(
+        out,
+        at,
+        b"fetch,fetch.slot,fetch.high,fetch.envelope,fetch.size,fetch.at,fetch.text,post,post.slot,post.high,post.envelope,post.size,post.at,post.answers,post.text",
+        b"=#$###<=#$####>",
+        &values,
+        &incoming,
+        &outgoing,
+    )
 }
 
-// A name and a word.
-fn worded(out: &mut [u8; 65536], at: usize, s: &[u8], w: u16) -> usize {
-    let k = part::name(out, at, s);
-    part::word(out, k, w)
-}
-
-fn phase(out: &mut [u8; 65536], at: usize, p: Port) -> usize {
-    let x = p.phase;
-    match x {
-        Phase::Step1 => part::name(out, at, b"step1"),
-        Phase::Wrap(w) => worded(out, at, b"wrap", w),
-        Phase::Step2(first) => worded(out, at, b"step2", first),
-        Phase::Step3(first, second) => {
-            let k = worded(out, at, b"step3", first);
-            part::word(out, k, second)
-        }
-        Phase::Step4(area) => {
-            let k = part::name(out, at, b"step4");
-            three(out, k, area)
-        }
-        Phase::Running(area, go) => {
-            let k = part::name(out, at, b"running");
-            let a = three(out, k, area);
-            let b = part::word(out, a, go);
-            sides(out, b, p)
-        }
-        Phase::Failed(f) => answer::numbered(out, at, b"fatal", base_answers::code(f)),
-    }
-}
-
-// A port: what creation gave, and where it stands.
+// A port: what creation gave, where it stands, and its sides.
 pub fn state(out: &mut [u8; 65536], at: usize, p: Port) -> usize {
     let a = part::name(out, at, b"port");
-    let b = made(out, a, p.made);
-    phase(out, b, p)
+    let b = own(out, a, p);
+    sides(out, b, p)
 }

@@ -1,4 +1,4 @@
-// The parts of a line: names, numbers, words, bits and bytes. Each function answers where the next part goes.
+// The parts of a line: names, numbers, words and bytes. Each function answers where the next part goes.
 ghost use Rattle.io.specs.Counts.{Counts};
 
 // The buffer's length: room for more than 64 lines.
@@ -31,10 +31,26 @@ pub fn put_all(out: &mut [u8; 65536], at: usize, s: &[u8]) -> usize {
     k
 }
 
+// The word of a list, where commas stand between the words, with nothing before it; the first has the number 0.
+pub fn nth(out: &mut [u8; 65536], at: usize, list: &[u8], n: usize) -> usize {
+    let mut k = at;
+    let mut word = 0;
+    let mut i = 0;
+    while i < list.len() {
+        if list[i] == b',' {
+            word = std::num::wrapping_add_usize(word, 1);
+        } else if word == n {
+            k = put(out, k, list[i]);
+        }
+        i += 1;
+    }
+    k
+}
+
 // A number in decimal digits, with nothing before it.
-fn digits(out: &mut [u8; 65536], at: usize, n: u32) -> usize {
+pub fn digits(out: &mut [u8; 65536], at: usize, n: u64) -> usize {
     let mut text = [0u8; 20];
-    let k = io::decimal(n as u64, &mut text);
+    let k = io::decimal(n, &mut text);
     put_all(out, at, &text[..k])
 }
 
@@ -68,15 +84,7 @@ pub fn name(out: &mut [u8; 65536], at: usize, s: &[u8]) -> usize {
 // A number.
 pub fn number(out: &mut [u8; 65536], at: usize, n: u32) -> usize {
     let k = put(out, at, b' ');
-    digits(out, k, n)
-}
-
-// A bit: 1 or 0.
-pub fn bit(out: &mut [u8; 65536], at: usize, b: bool) -> usize {
-    if b {
-        return name(out, at, b"1");
-    }
-    name(out, at, b"0")
+    digits(out, k, n as u64)
 }
 
 // A word of memory or of a register.
@@ -86,7 +94,7 @@ pub fn word(out: &mut [u8; 65536], at: usize, w: u16) -> usize {
 }
 
 // How many bytes stand before the zeros at the end.
-fn extent(bytes: &[u8; 60]) -> usize {
+pub fn extent(bytes: &[u8; 60]) -> usize {
     let mut n = 60;
     while n > 0 {
         if bytes[n - 1] != 0 {
@@ -98,7 +106,7 @@ fn extent(bytes: &[u8; 60]) -> usize {
 }
 
 // Some bytes, as two digits each, with nothing before them.
-fn all_two(out: &mut [u8; 65536], at: usize, s: &[u8], n: usize) -> usize {
+pub fn all_two(out: &mut [u8; 65536], at: usize, s: &[u8], n: usize) -> usize {
     let mut k = at;
     let mut i = 0;
     while i < s.len() {
@@ -123,7 +131,7 @@ pub fn bytes(out: &mut [u8; 65536], at: usize, text: &[u8; 60]) -> usize {
 
 // The start of a line: its number and a colon.
 pub fn start(out: &mut [u8; 65536], at: usize, line: u32) -> usize {
-    let k = digits(out, at, line);
+    let k = digits(out, at, line as u64);
     put(out, k, b':')
 }
 

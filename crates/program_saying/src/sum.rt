@@ -37,10 +37,15 @@ fn length_of(n: usize) -> u32 {
     if n < 262400 { n as u32 } else { 262400 }
 }
 
+// A sum, in eight digits.
+pub fn shown(out: &mut [u8; 65536], at: usize, sum: u32) -> usize {
+    let k = part::word(out, at, (sum / 65536) as u16);
+    part::four(out, k, (sum % 65536) as u16)
+}
+
 // How many bytes are lent, and their sum.
 pub fn memory(out: &mut [u8; 65536], at: usize, mem: &[u8]) -> usize {
     let sum = with_bytes(START, mem);
     let k = part::number(out, at, length_of(mem.len()));
-    let w = part::word(out, k, (sum / 65536) as u16);
-    part::four(out, w, (sum % 65536) as u16)
+    shown(out, k, sum)
 }

@@ -1,8 +1,9 @@
 // The words that calls begin with, by what they are made on: the stage, the port or the host.
 use crate::line;
+use crate::reason::Reason;
 
 // A step call of any of the four sides stands apart: it may be made more than once.
-pub enum Side {
+pub enum OnSide {
     Fetch,
     Post,
     Send,
@@ -38,14 +39,14 @@ pub enum OnHost {
     ClearResponse,
 }
 
-// What a line asks: nothing at all (it is empty or a comment), a call, or what is no call.
+// What a line is: blank (empty or a comment), a call, or no call.
 pub enum Name {
-    Nothing,
+    Blank,
     Stage(OnStage),
     Port(OnPort),
     Host(OnHost),
-    Steps(Side),
-    Unknown,
+    Repeated(OnSide),
+    NoCall(Reason),
 }
 
 fn stage_name(word: &[u8]) -> Name {
@@ -64,7 +65,7 @@ fn stage_name(word: &[u8]) -> Name {
     if line::same(word, b"peek") {
         return Name::Stage(OnStage::Peek);
     }
-    Name::Unknown
+    Name::NoCall(Reason::NoSuchWord)
 }
 
 fn port_name(word: &[u8]) -> Name {
@@ -89,7 +90,7 @@ fn port_name(word: &[u8]) -> Name {
     if line::same(word, b"begin-unsolicited") {
         return Name::Port(OnPort::BeginUnsolicited);
     }
-    Name::Unknown
+    Name::NoCall(Reason::NoSuchWord)
 }
 
 fn host_name(word: &[u8]) -> Name {
@@ -117,28 +118,28 @@ fn host_name(word: &[u8]) -> Name {
     if line::same(word, b"clear-response") {
         return Name::Host(OnHost::ClearResponse);
     }
-    Name::Unknown
+    Name::NoCall(Reason::NoSuchWord)
 }
 
 fn step_name(word: &[u8]) -> Name {
     if line::same(word, b"step-fetch") {
-        return Name::Steps(Side::Fetch);
+        return Name::Repeated(OnSide::Fetch);
     }
     if line::same(word, b"step-post") {
-        return Name::Steps(Side::Post);
+        return Name::Repeated(OnSide::Post);
     }
     if line::same(word, b"step-send") {
-        return Name::Steps(Side::Send);
+        return Name::Repeated(OnSide::Send);
     }
     if line::same(word, b"step-take") {
-        return Name::Steps(Side::Take);
+        return Name::Repeated(OnSide::Take);
     }
-    Name::Unknown
+    Name::NoCall(Reason::NoSuchWord)
 }
 
-// A name, or the other where it is unknown.
+// A name, or the other where it is none.
 fn or(x: Name, other: Name) -> Name {
-    if let Name::Unknown = x { other } else { x }
+    if let Name::NoCall(_) = x { other } else { x }
 }
 
 // What a word names.

@@ -5,6 +5,7 @@ use crate::name::Name;
 use crate::name::OnHost;
 use crate::name::OnPort;
 use crate::name::OnStage;
+use crate::reason::Reason;
 use crate::value;
 use crate::value::Number;
 use crate::value::Text;
@@ -33,11 +34,11 @@ pub struct Shape {
     pub text: bool,
 }
 
-// How far a line is read: whether all so far is good, whether another word follows, and where it starts.
-pub struct Place {
-    pub good: bool,
-    pub more: bool,
-    pub at: usize,
+// How far a line is read: to its end, to the start of another word, or no further, for a reason.
+pub enum Place {
+    End,
+    At(usize),
+    Bad(Reason),
 }
 
 // A line that was read.
@@ -114,38 +115,21 @@ fn step_shape() -> Shape {
 
 fn shape_of(x: Name) -> Shape {
     match x {
-        Name::Nothing => plain(0, [0, 0, 0, 0, 0]),
+        Name::Blank => plain(0, [0, 0, 0, 0, 0]),
         Name::Stage(s) => stage_shape(s),
         Name::Port(p) => port_shape(p),
         Name::Host(h) => host_shape(h),
-        Name::Steps(_) => step_shape(),
-        Name::Unknown => plain(0, [0, 0, 0, 0, 0]),
-    }
-}
-
-// Nothing more is read of a line that is no call.
-fn bad() -> Place {
-    Place {
-        good: false,
-        more: false,
-        at: 0,
+        Name::Repeated(_) => step_shape(),
+        Name::NoCall(_) => plain(0, [0, 0, 0, 0, 0]),
     }
 }
 
 // After a word that ends at some place: another follows after a space.
 fn after(line: &[u8], end: usize) -> Place {
     if end < line.len() {
-        return Place {
-            good: true,
-            more: true,
-            at: end + 1,
-        };
+        return Place::At(end + 1);
     }
-    Place {
-        good: true,
-        more: false,
-        at: end,
-    }
+    Place::End
 }
 
 // A number read, and the place after it.
@@ -154,29 +138,45 @@ struct Counted {
     place: Place,
 }
 
-fn uncounted() -> Counted {
-    let place = bad();
-    Counted { value: 0, place }
+// Nothing more is read of a line that is no call.
+fn uncounted(reason: Reason) -> Counted {
+    Counted {
+        value: 0,
+        place: Place::Bad(reason),
+    }
+}
+
+// The number from one place to another.
+fn number_in(line: &[u8], word: &[u8], end: usize, most: u32) -> Counted {
+    let n = value::number_in(word);
+    match n {
+        Number::Is(v) => {
+            if most < v {
+                return uncounted(Reason::NumberTooLarge);
+            }
+            let place = after(line, end);
+            Counted { value: v, place }
+        }
+        Number::TooLarge => uncounted(Reason::NumberTooLarge),
+        Number::NotOne => uncounted(Reason::NotANumber),
+    }
+}
+
+// The number that starts at a place.
+fn number_from(line: &[u8], at: usize, most: u32) -> Counted {
+    if line.len() < at {
+        return uncounted(Reason::NumberMissing);
+    }
+    let end = line::next_of(line, at, b' ');
+    number_in(line, &line[at..end], end, most)
 }
 
 fn number_at(line: &[u8], place: Place, most: u32) -> Counted {
-    let at = place.at;
-    if !place.more {
-        return uncounted();
+    match place {
+        Place::End => uncounted(Reason::NumberMissing),
+        Place::At(at) => number_from(line, at, most),
+        Place::Bad(reason) => uncounted(reason),
     }
-    if line.len() < at {
-        return uncounted();
-    }
-    let end = line::next_of(line, at, b' ');
-    let n = value::number_in(&line[at..end]);
-    let Number::Is(v) = n else {
-        return uncounted();
-    };
-    if most < v {
-        return uncounted();
-    }
-    let place = after(line, end);
-    Counted { value: v, place }
 }
 
 // The numbers of a shape, and the place after them.
@@ -207,27 +207,37 @@ struct Written {
     place: Place,
 }
 
-fn unwritten() -> Written {
+fn unwritten(reason: Reason) -> Written {
     let text = value::no_text();
-    let place = bad();
+    Written {
+        text,
+        place: Place::Bad(reason),
+    }
+}
+
+// The text that starts at a place. A word of more than two digits for each of 64 bytes is too long, whatever it is.
+fn text_from(line: &[u8], at: usize) -> Written {
+    if line.len() < at {
+        return unwritten(Reason::TextMissing);
+    }
+    let end = line::next_of(line, at, b' ');
+    if 2 * value::LONGEST < end - at {
+        return unwritten(Reason::TextTooLong);
+    }
+    let text = value::text_in(&line[at..end]);
+    if !text.good {
+        return unwritten(Reason::NotAText);
+    }
+    let place = after(line, end);
     Written { text, place }
 }
 
 fn text_at(line: &[u8], place: Place) -> Written {
-    let at = place.at;
-    if !place.more {
-        return unwritten();
+    match place {
+        Place::End => unwritten(Reason::TextMissing),
+        Place::At(at) => text_from(line, at),
+        Place::Bad(reason) => unwritten(reason),
     }
-    if line.len() < at {
-        return unwritten();
-    }
-    let end = line::next_of(line, at, b' ');
-    let text = value::text_in(&line[at..end]);
-    if !text.good {
-        return unwritten();
-    }
-    let place = after(line, end);
-    Written { text, place }
 }
 
 // A text where the shape has one.
@@ -250,25 +260,36 @@ fn alone(name: Name) -> Order {
     }
 }
 
-// What follows a name is read by the name's shape, up to the line's end.
-fn read(line: &[u8], name: Name, start: Place) -> Order {
+// A name at whose place the line must end.
+fn ended(name: Name, place: Place) -> Name {
+    match place {
+        Place::End => name,
+        Place::At(_) => Name::NoCall(Reason::SomethingFollows),
+        Place::Bad(reason) => Name::NoCall(reason),
+    }
+}
+
+// A shape for what follows: a number that may be left out is, where the line ends.
+fn fitted(name: Name, start: Place) -> Shape {
     let mut shape = shape_of(name);
     if shape.left_out {
-        if !start.more {
+        if let Place::End = start {
             shape.count = 0;
         }
     }
+    shape
+}
+
+// What follows a name is read by the name's shape, up to the line's end.
+fn read(line: &[u8], name: Name, start: Place) -> Order {
+    let shape = fitted(name, start);
     let n = numbers_at(line, start, shape);
     let numbers = n.values;
-    let w = text_if(line, n.place, shape.text);
+    let place = n.place;
+    let w = text_if(line, place, shape.text);
     let text = w.text;
     let end = w.place;
-    if !end.good {
-        return alone(Name::Unknown);
-    }
-    if end.more {
-        return alone(Name::Unknown);
-    }
+    let name = ended(name, end);
     Order {
         name,
         numbers,
@@ -276,27 +297,37 @@ fn read(line: &[u8], name: Name, start: Place) -> Order {
     }
 }
 
+// The order that a line is, when its first word is a name.
+fn named(line: &[u8], name: Name, end: usize) -> Order {
+    if let Name::NoCall(_) = name {
+        return alone(name);
+    }
+    read(line, name, after(line, end))
+}
+
 // The order that a line is.
-pub fn order_of(line: &[u8]) -> Order {
+fn order_in(line: &[u8]) -> Order {
     if line.len() == 0 {
-        return alone(Name::Nothing);
+        return alone(Name::Blank);
     }
     if line[0] == b'#' {
-        return alone(Name::Nothing);
+        return alone(Name::Blank);
     }
     let from = 0;
     let end = line::next_of(line, from, b' ');
-    let name = name::name_of(&line[from..end]);
-    let start = after(line, end);
-    read(line, name, start)
+    named(line, name::name_of(&line[from..end]), end)
 }
 
-// A line of numbers alone, each with the largest that it may be; good if the place after them is the line's end.
+// The order that a line is. The CR before a line feed is no part of it.
+pub fn order_of(line: &[u8]) -> Order {
+    let from = 0;
+    let end = line::end_of(line);
+    order_in(&line[from..end])
+}
+
+// A line of numbers alone, each with the largest that it may be; they are all of it if the place after them is its end.
 pub fn numbers_of(line: &[u8], count: usize, most: [u32; 5]) -> Numbers {
-    let start = Place {
-        good: true,
-        more: true,
-        at: 0,
-    };
-    numbers_at(line, start, plain(count, most))
+    let from = 0;
+    let end = line::end_of(line);
+    numbers_at(&line[from..end], Place::At(from), plain(count, most))
 }

@@ -9,7 +9,8 @@ pub const LONGEST: usize = 64;
 
 pub enum Number {
     Is(u32),
-    Bad,
+    TooLarge,
+    NotOne,
 }
 
 // A text of at most 64 bytes, zero beyond its length; or none, where the word is no text.
@@ -60,20 +61,20 @@ fn is_digit(b: u8, hexadecimal: bool) -> bool {
 // The digits from a given place on; at least one.
 fn digits_from(word: &[u8], from: usize, hexadecimal: bool) -> Number {
     if word.len() <= from {
-        return Number::Bad;
+        return Number::NotOne;
     }
     let mut n = 0u64;
     let mut i = from;
     while i < word.len() {
         let b = word[i];
         if !is_digit(b, hexadecimal) {
-            return Number::Bad;
+            return Number::NotOne;
         }
         n = more(n, hexadecimal, digit_of(b));
         i += 1;
     }
     if MOST < n {
-        return Number::Bad;
+        return Number::TooLarge;
     }
     Number::Is(n as u32)
 }

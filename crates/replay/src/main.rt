@@ -6,7 +6,11 @@ mod stage;
 mod steps;
 
 use program_saying::part;
+use program_saying::standard;
+use program_saying::standard::Got;
+use program_script::line;
 use program_script::name::Name;
+use program_script::order;
 use program_script::order::Order;
 use stage::Stage;
 
@@ -20,59 +24,70 @@ fn obey(x: Stage, order: Order, mem: &mut [u8], out: &mut [u8; 65536]) -> Stage 
     let text = order.text;
     let lent = part::within(x.lent, mem);
     match name {
-        Name::Nothing => x,
+        Name::Blank => x,
         Name::Stage(call) => made_on_stage::call(x, call, numbers, mem, out),
         Name::Port(call) => made_on_port::call(x, call, numbers, text, &mut mem[..lent], out),
         Name::Host(call) => made_on_host::call(x, call, numbers, text, &mut mem[..lent], out),
-        Name::Steps(side) => steps::times(x, side, numbers[0], &mut mem[..lent], out),
-        Name::Unknown => x.stops(out),
+        Name::Repeated(side) => steps::times(x, side, numbers[0], &mut mem[..lent], out),
+        Name::NoCall(reason) => x.stops(reason, out),
     }
 }
 
-// One line after the other, to the script's end or the first that is no call; where the last printed line ends.
-fn run(text: &[u8], mem: &mut [u8], out: &mut [u8; 65536]) -> usize {
+// One line of a script.
+fn obey_line(x: Stage, text: &[u8], mem: &mut [u8], out: &mut [u8; 65536]) -> Stage {
+    let order = order::order_of(text);
+    obey(x.next_line(), order, mem, out).roomy(out)
+}
+
+// One line after the other, to the script's end or the first that is no call.
+fn run(text: &[u8], mem: &mut [u8], out: &mut [u8; 65536]) -> Stage {
     let mut x = Stage::new();
     let mut from = 0;
     while from < text.len() {
-        let end = program_script::line::next_of(text, from, b'\n');
-        let order = program_script::order::order_of(&text[from..end]);
-        x = obey(x.next_line(), order, mem, out);
+        let end = line::next_of(text, from, b'\n');
+        let next = line::after(text, from, end);
+        x = obey_line(x, &text[from..end], mem, out);
         if x.over {
-            return x.at;
+            return x;
         }
-        if text.len() <= end {
-            return x.at;
-        }
-        from = end + 1;
+        from = next;
     }
-    x.at
+    x
 }
 
-// A script of some bytes: all that its calls print.
-fn play(text: &[u8], n: usize, mem: &mut [u8], out: &mut [u8; 65536]) {
+// A script of some bytes: all that its calls print. Whether it was written.
+fn play(text: &[u8], n: usize, mem: &mut [u8], out: &mut [u8; 65536]) -> bool {
     let k = part::within(n, text);
-    let left = run(&text[..k], mem, out);
-    stage::write(out, left);
+    let x = run(&text[..k], mem, out);
+    if x.unwritten {
+        return false;
+    }
+    standard::write(out, x.at)
 }
 
 // Room for a script and a byte more, to see whether it is longer. It is handed on whole, since the length of an array so large
 // is a fact that the check knows from the array's type and does not count.
-fn read(text: &mut [u8; 1048577]) -> usize {
-    io::read_full(0, text)
+fn read(text: &mut [u8; 1048577]) -> Got {
+    standard::read_all(text)
 }
 
-fn play_read(text: &[u8; 1048577], n: usize, mem: &mut [u8; 262400], out: &mut [u8; 65536]) {
+fn play_read(text: &[u8; 1048577], n: usize, mem: &mut [u8; 262400], out: &mut [u8; 65536]) -> bool {
     if LONGEST < n {
-        io::write_all(1, b"script too long\n");
-        return;
+        return io::write_all(1, b"script too long\n");
     }
-    play(text, n, mem, out);
+    play(text, n, mem, out)
 }
 
 fn main() {
     let mut text = [0u8; 1048577];
     let mut mem = [0u8; 262400];
     let mut out = [0u8; 65536];
-    let n = read(&mut text);
-    play_read(&text, n, &mut mem, &mut out);
+    let got = read(&mut text);
+    if !got.good {
+        io::write_all(2, b"replay: can't read\n");
+        return;
+    }
+    if !play_read(&text, got.size, &mut mem, &mut out) {
+        io::write_all(2, b"replay: can't write\n");
+    }
 }

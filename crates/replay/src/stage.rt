@@ -6,12 +6,15 @@ use program_saying::answer;
 use program_saying::of_host;
 use program_saying::of_port;
 use program_saying::part;
+use program_saying::standard;
 use program_saying::sum;
+use program_script::reason::Reason;
 
 // The buffer is written once it is half full: the other half has room for any line.
 const HALF: usize = 32768;
 
-// `line` is the number of the line that is read, `at` where its answer goes in the buffer, `over` whether the script has ended.
+// `line` is the number of the line that is read, `at` where its answer goes in the buffer, `over` whether no more lines are read, and
+// `unwritten` whether that is because the buffer could not be written.
 pub struct Stage {
     pub host: Host,
     pub port: Port,
@@ -19,6 +22,7 @@ pub struct Stage {
     pub line: u32,
     pub at: usize,
     pub over: bool,
+    pub unwritten: bool,
 }
 
 // The numbers of an order in the places where they fit.
@@ -34,19 +38,18 @@ pub fn word_of(n: u32) -> u16 {
     (n % 65536) as u16
 }
 
-// Writes what stands in the buffer.
-pub fn write(out: &[u8], n: usize) {
-    let k = part::within(n, out);
-    io::write_all(1, &out[..k]);
-}
-
-// Makes room for a line.
-fn roomy(out: &mut [u8; 65536], at: usize) -> usize {
-    if at < HALF {
-        return at;
+// Why a line is no call.
+fn because(out: &mut [u8; 65536], at: usize, reason: Reason) -> usize {
+    match reason {
+        Reason::NoSuchWord => part::name(out, at, b"no such word"),
+        Reason::NumberMissing => part::name(out, at, b"a number is missing"),
+        Reason::NotANumber => part::name(out, at, b"not a number"),
+        Reason::NumberTooLarge => part::name(out, at, b"the number is too large"),
+        Reason::TextMissing => part::name(out, at, b"a text is missing"),
+        Reason::NotAText => part::name(out, at, b"not a text"),
+        Reason::TextTooLong => part::name(out, at, b"the text is longer than 64 bytes"),
+        Reason::SomethingFollows => part::name(out, at, b"something follows"),
     }
-    write(out, at);
-    0
 }
 
 // The end of a call's line: the memory's sum.
@@ -76,6 +79,7 @@ impl Stage {
             line: 0,
             at: 0,
             over: false,
+            unwritten: false,
         }
     }
 
@@ -111,6 +115,7 @@ impl Stage {
             line: self.line,
             at: self.at,
             over: self.over,
+            unwritten: self.unwritten,
         }
     }
 
@@ -123,20 +128,35 @@ impl Stage {
             line: self.line,
             at: self.at,
             over: self.over,
+            unwritten: self.unwritten,
         }
+    }
+
+    // Makes room for a line.
+    pub fn roomy(mut self, out: &[u8; 65536]) -> Stage {
+        if self.at < HALF {
+            return self;
+        }
+        let written = standard::write(out, self.at);
+        self.at = 0;
+        if !written {
+            self.over = true;
+            self.unwritten = true;
+        }
+        self
     }
 
     // The start of this line's answer.
     pub fn starts(self, out: &mut [u8; 65536]) -> usize {
-        let k = roomy(out, self.at);
-        part::start(out, k, self.line)
+        part::start(out, self.at, self.line)
     }
 
     // The line is no call.
-    pub fn stops(mut self, out: &mut [u8; 65536]) -> Stage {
+    pub fn stops(mut self, reason: Reason, out: &mut [u8; 65536]) -> Stage {
         let a = self.starts(out);
-        let b = part::name(out, a, b"not a call");
-        self.at = part::end(out, b);
+        let b = part::name(out, a, b"not a call:");
+        let c = because(out, b, reason);
+        self.at = part::end(out, c);
         self.over = true;
         self
     }
@@ -194,8 +214,9 @@ impl Stage {
     ) -> Stage {
         let host = r.host;
         let act = r.act;
+        let bytes = r.bytes;
         let a = self.starts(out);
-        let b = answer::act(out, a, act);
+        let b = answer::asked(out, a, act, r.size, &bytes);
         self.host_shown(host, b, mem, out)
     }
 }

@@ -6,10 +6,12 @@ use base_answers::Reply;
 use host_state::state::Host;
 use port_state::state::Port;
 use program_saying::part;
+use program_saying::standard;
 use program_saying::sum;
 use program_scheduling::opening;
 use program_script::line;
 use program_script::order;
+use program_script::order::Place;
 
 // Both halves, the step calls made, and the sum of the texts taken.
 struct Run {
@@ -121,58 +123,77 @@ fn met(command: u32, response: u32, mem: &mut [u8]) -> Run {
     }
 }
 
-fn print(count: u32, x: Run) {
-    io::write_all(1, b"rounds ");
-    io::print_decimal(1, count as u64);
-    io::write_all(1, b" steps ");
-    io::print_decimal(1, x.steps as u64);
-    io::write_all(1, b" sum ");
-    io::print_hex(1, x.sum as u64, 8);
-    io::write_all(1, b"\n");
+// Whether the line was written.
+fn print(count: u32, x: Run) -> bool {
+    let mut out = [0u8; 65536];
+    let a = part::put_all(&mut out, 0, b"rounds");
+    let b = part::number(&mut out, a, count);
+    let c = part::name(&mut out, b, b"steps");
+    let d = part::number(&mut out, c, x.steps);
+    let e = part::name(&mut out, d, b"sum");
+    let f = sum::shown(&mut out, e, x.sum);
+    let g = part::end(&mut out, f);
+    standard::write(&out, g)
 }
 
-// What the four numbers ask.
-fn measure(n: [u32; 5], mem: &mut [u8]) {
+// What the four numbers ask. Whether it was written.
+fn measure(n: [u32; 5], mem: &mut [u8]) -> bool {
     let start = met(n[0], n[1], mem);
     let x = rounds(start, n[2] as usize, n[3], mem);
-    print(n[3], x);
+    print(n[3], x)
 }
 
 // Whether four numbers were read, and which.
-struct Asked {
+struct Wanted {
     good: bool,
     numbers: [u32; 5],
 }
 
+fn ends(x: Place) -> bool {
+    if let Place::End = x { true } else { false }
+}
+
 // The four numbers of a line, each with the largest that it may be. An x would make a number hexadecimal.
-fn asked_in(text: &[u8]) -> Asked {
+fn wanted_in(text: &[u8]) -> Wanted {
     let r = order::numbers_of(text, 4, [7, 7, 60, 1000000, 0]);
     let numbers = r.values;
     let place = r.place;
     let from = 0;
     let decimal = line::next_of(text, from, b'x') == text.len();
-    let whole = if place.more { false } else { place.good };
-    Asked {
-        good: if decimal { whole } else { false },
+    Wanted {
+        good: if decimal { ends(place) } else { false },
         numbers,
     }
+}
+
+// How the program is used.
+fn usage() {
+    io::write_all(2, b"usage: rounds reads a line COMMAND RESPONSE SIZE COUNT, in decimal:\n");
+    io::write_all(2, b"ring exponents 0 to 7, bytes of a text 0 to 60, rounds 0 to 1000000\n");
 }
 
 fn obey(input: &[u8], mem: &mut [u8]) {
     let from = 0;
     let end = line::next_of(input, from, b'\n');
-    let asked = asked_in(&input[from..end]);
-    if !asked.good {
-        io::write_all(1, b"usage: COMMAND RESPONSE SIZE COUNT\n");
+    let wanted = wanted_in(&input[from..end]);
+    if !wanted.good {
+        usage();
         return;
     }
-    let numbers = asked.numbers;
-    measure(numbers, mem);
+    let numbers = wanted.numbers;
+    if !measure(numbers, mem) {
+        io::write_all(2, b"rounds: can't write\n");
+    }
 }
 
 fn main() {
     let mut input = [0u8; 128];
-    let n = io::read_full(0, &mut input);
+    let got = standard::read_all(&mut input);
+    if !got.good {
+        io::write_all(2, b"rounds: can't read\n");
+        return;
+    }
+    let n = got.size;
     let mut mem = [0u8; 32768];
     obey(&input[..n], &mut mem);
 }

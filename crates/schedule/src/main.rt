@@ -1,35 +1,57 @@
 // Document 01, "The schedule program": reads a schedule on standard input and prints one line.
+use program_saying::part;
+use program_saying::standard;
 use program_scheduling::Line;
 
 // A name and its number.
-fn say(name: &[u8], n: u32) {
-    io::write_all(1, name);
-    io::print_decimal(1, n as u64);
+fn counted(out: &mut [u8; 65536], at: usize, name: &[u8], n: u32) -> usize {
+    let k = part::name(out, at, name);
+    part::number(out, k, n)
 }
 
-fn print(line: Line) {
+// What was counted of operations.
+fn operations(out: &mut [u8; 65536], line: Line) -> usize {
+    let a = part::put_all(out, 0, b"sent");
+    let b = part::number(out, a, line.sent);
+    let c = counted(out, b, b"fetched", line.fetched);
+    let d = counted(out, c, b"answered", line.answered);
+    counted(out, d, b"taken", line.taken)
+}
+
+// What the halves count, and SA.
+fn halves(out: &mut [u8; 65536], at: usize, line: Line) -> usize {
+    let a = counted(out, at, b"account", line.account as u32);
+    let b = counted(out, a, b"owed", line.owed as u32);
+    let c = counted(out, b, b"wakes", line.command);
+    let d = part::number(out, c, line.response);
+    let e = part::name(out, d, b"sa");
+    part::word(out, e, line.sa)
+}
+
+// Whether the line was written.
+fn print(line: Line) -> bool {
     if line.refused {
-        io::write_all(1, b"refused\n");
-        return;
+        return io::write_all(1, b"refused\n");
     }
-    say(b"sent ", line.sent);
-    say(b" fetched ", line.fetched);
-    say(b" answered ", line.answered);
-    say(b" taken ", line.taken);
-    say(b" account ", line.account as u32);
-    say(b" owed ", line.owed as u32);
-    say(b" wakes ", line.command);
-    say(b" ", line.response);
-    io::write_all(1, b" sa ");
-    io::print_hex(1, line.sa as u64, 4);
-    io::write_all(1, b"\n");
+    let mut out = [0u8; 65536];
+    let a = operations(&mut out, line);
+    let b = halves(&mut out, a, line);
+    let c = part::end(&mut out, b);
+    standard::write(&out, c)
 }
 
 // The input is read until it ends or 4,097 bytes have come: one more than a schedule has.
 fn main() {
     let mut input = [0u8; 4097];
-    let n = io::read_full(0, &mut input);
+    let got = standard::read_all(&mut input);
+    if !got.good {
+        io::write_all(2, b"schedule: can't read\n");
+        return;
+    }
+    let n = got.size;
     let mut mem = [0u8; 32768];
     let line = program_scheduling::run(&input[..n], &mut mem);
-    print(line);
+    if !print(line) {
+        io::write_all(2, b"schedule: can't write\n");
+    }
 }

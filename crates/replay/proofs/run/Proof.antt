@@ -1,7 +1,6 @@
 -- The loop: `from` is at most the script's length, and the memory keeps its length. Assumes nothing.
 use Prim.Native.Nat.{_≤_, _-_}
 use mathlib.Core.Path.{_≡_}
-use native.Mathlib.Omega.{arith}
 use lib.ListN.{length}
 use borrow.Author.Needs.{needs}
 use Rattle.replay.proofs.run.Statement.{statement}
@@ -22,23 +21,20 @@ loop-holds c = search needs
 next-of-requires : tie.Need-next-of-requires Inv-loop μ-loop
 next-of-requires c κs = search needs
 
-sub-order-of : tie.Need-sub-order-of Inv-loop μ-loop
-sub-order-of c = search needs
+after-requires : tie.Need-after-requires Inv-loop μ-loop
+after-requires c κs = search needs
 
-part-order-of-start : tie.Need-part-order-of-start Inv-loop μ-loop
-part-order-of-start c = search needs
+sub-obey-line : tie.Need-sub-obey-line Inv-loop μ-loop
+sub-obey-line c = search needs
 
-part-order-of-end : tie.Need-part-order-of-end Inv-loop μ-loop
-part-order-of-end c = search needs
+part-obey-line-start : tie.Need-part-obey-line-start Inv-loop μ-loop
+part-obey-line-start c = search needs
 
-order-of-requires : tie.Need-order-of-requires Inv-loop μ-loop
-order-of-requires c κs = search needs
+part-obey-line-end : tie.Need-part-obey-line-end Inv-loop μ-loop
+part-obey-line-end c = search needs
 
-next-line-requires : tie.Need-next-line-requires Inv-loop μ-loop
-next-line-requires c κs = search needs
-
-obey-requires : tie.Need-obey-requires Inv-loop μ-loop
-obey-requires c κs = search needs
+obey-line-requires : tie.Need-obey-line-requires Inv-loop μ-loop
+obey-line-requires c κs = search needs
 
 same-length : tie.Need-same-length Inv-loop μ-loop
 same-length c = search needs
@@ -46,26 +42,17 @@ same-length c = search needs
 returns : tie.Need-returns Inv-loop μ-loop
 returns c = search needs
 
+loop-less : tie.Need-loop-less Inv-loop μ-loop
+loop-less c = search needs
+
+loop-again : tie.Need-loop-again Inv-loop μ-loop
+loop-again c = search needs
+
 same-length-2 : tie.Need-same-length-2 Inv-loop μ-loop
 same-length-2 c = search needs
 
 returns-2 : tie.Need-returns-2 Inv-loop μ-loop
 returns-2 c = search needs
-
-add-from : tie.Need-add-from Inv-loop μ-loop
-add-from c = omega (arith, c .before .before .before .before .before .before .before .before .before .before .next-of .ensures, c .before .before .before .before .before .before .before .before .before .before .before .before .before .before .before .before .good)
-
-loop-less : tie.Need-loop-less Inv-loop μ-loop
-loop-less c = omega (arith, c .before .before .before .before .before .before .before .before .before .before .next-of .ensures, c .before .before .before .before .before .before .before .before .before .before .before .before .before .before .before .before .good)
-
-loop-again : tie.Need-loop-again Inv-loop μ-loop
-loop-again c = (omega (arith, c .before .before .before .before .before .before .before .before .before .before .next-of .ensures, c .before .before .before .before .before .before .before .before .before .before .before .before .before .before .before .before .good), search needs)
-
-same-length-3 : tie.Need-same-length-3 Inv-loop μ-loop
-same-length-3 c = search needs
-
-returns-3 : tie.Need-returns-3 Inv-loop μ-loop
-returns-3 c = search needs
 
 pub run-spec : {M : Type 1} → statement M
 run-spec =
@@ -76,18 +63,14 @@ run-spec =
     new-requires
     loop-holds
     next-of-requires
-    sub-order-of
-    part-order-of-start
-    part-order-of-end
-    order-of-requires
-    next-line-requires
-    obey-requires
+    after-requires
+    sub-obey-line
+    part-obey-line-start
+    part-obey-line-end
+    obey-line-requires
     same-length
     returns
-    same-length-2
-    returns-2
-    add-from
     loop-less
     loop-again
-    same-length-3
-    returns-3)
+    same-length-2
+    returns-2)
