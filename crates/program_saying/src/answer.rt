@@ -94,7 +94,12 @@ fn asking(x: Act) -> Named {
 
 fn act(out: &mut [u8; 65536], at: usize, x: Act) -> usize {
     let n = asking(x);
-    listed(out, at, b"write-ip,write-sa,waiting,dead,none,port-failed,refused", n)
+    listed(
+        out,
+        at,
+        b"write-ip,write-sa,waiting,dead,none,port-failed,refused",
+        n,
+    )
 }
 
 // The answer of a handshake call of the host: a refusal has a length and 60 bytes, as everywhere.

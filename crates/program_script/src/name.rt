@@ -2,12 +2,21 @@
 use crate::line;
 use crate::reason::Reason;
 
-// A step call of any of the four sides stands apart: it may be made more than once.
-pub enum OnSide {
+// The sides of a port, and of a host.
+pub enum PortSide {
     Fetch,
     Post,
+}
+
+pub enum HostSide {
     Send,
     Take,
+}
+
+// A step call of any of the four sides stands apart: it may be made more than once.
+pub enum OnSide {
+    Port(PortSide),
+    Host(HostSide),
 }
 
 pub enum OnStage {
@@ -18,20 +27,30 @@ pub enum OnStage {
     Peek,
 }
 
-pub enum OnPort {
-    Create,
+// Calls of the port that answer with no reply.
+pub enum OnRegister {
     WriteIp,
     ReadSa,
+}
+
+// Calls of the port that answer with a reply.
+pub enum OnPort {
+    Create,
     WriteSa,
     BeginFetch,
     BeginAnswer,
     BeginUnsolicited,
 }
 
-pub enum OnHost {
+// Calls of the host that answer with what they ask.
+pub enum OnHandshake {
     Begin,
     SaSeen,
     TimeIsUp,
+}
+
+// Calls of the host that answer with a reply.
+pub enum OnHost {
     SetUp,
     BeginSend,
     BeginTake,
@@ -43,7 +62,9 @@ pub enum OnHost {
 pub enum Name {
     Blank,
     Stage(OnStage),
+    Register(OnRegister),
     Port(OnPort),
+    Handshake(OnHandshake),
     Host(OnHost),
     Repeated(OnSide),
     NoCall(Reason),
@@ -73,10 +94,10 @@ fn port_name(word: &[u8]) -> Name {
         return Name::Port(OnPort::Create);
     }
     if line::same(word, b"write-ip") {
-        return Name::Port(OnPort::WriteIp);
+        return Name::Register(OnRegister::WriteIp);
     }
     if line::same(word, b"read-sa") {
-        return Name::Port(OnPort::ReadSa);
+        return Name::Register(OnRegister::ReadSa);
     }
     if line::same(word, b"write-sa") {
         return Name::Port(OnPort::WriteSa);
@@ -95,13 +116,13 @@ fn port_name(word: &[u8]) -> Name {
 
 fn host_name(word: &[u8]) -> Name {
     if line::same(word, b"begin") {
-        return Name::Host(OnHost::Begin);
+        return Name::Handshake(OnHandshake::Begin);
     }
     if line::same(word, b"sa-seen") {
-        return Name::Host(OnHost::SaSeen);
+        return Name::Handshake(OnHandshake::SaSeen);
     }
     if line::same(word, b"time-is-up") {
-        return Name::Host(OnHost::TimeIsUp);
+        return Name::Handshake(OnHandshake::TimeIsUp);
     }
     if line::same(word, b"set-up") {
         return Name::Host(OnHost::SetUp);
@@ -123,16 +144,16 @@ fn host_name(word: &[u8]) -> Name {
 
 fn step_name(word: &[u8]) -> Name {
     if line::same(word, b"step-fetch") {
-        return Name::Repeated(OnSide::Fetch);
+        return Name::Repeated(OnSide::Port(PortSide::Fetch));
     }
     if line::same(word, b"step-post") {
-        return Name::Repeated(OnSide::Post);
+        return Name::Repeated(OnSide::Port(PortSide::Post));
     }
     if line::same(word, b"step-send") {
-        return Name::Repeated(OnSide::Send);
+        return Name::Repeated(OnSide::Host(HostSide::Send));
     }
     if line::same(word, b"step-take") {
-        return Name::Repeated(OnSide::Take);
+        return Name::Repeated(OnSide::Host(HostSide::Take));
     }
     Name::NoCall(Reason::NoSuchWord)
 }

@@ -2,6 +2,7 @@
 use crate::line;
 use crate::name;
 use crate::name::Name;
+use crate::name::OnHandshake;
 use crate::name::OnHost;
 use crate::name::OnPort;
 use crate::name::OnStage;
@@ -81,8 +82,6 @@ fn stage_shape(x: OnStage) -> Shape {
 fn port_shape(x: OnPort) -> Shape {
     match x {
         OnPort::Create => plain(5, [BIT, BIT, BIT, BYTE, BYTE]),
-        OnPort::WriteIp => plain(0, [0, 0, 0, 0, 0]),
-        OnPort::ReadSa => plain(0, [0, 0, 0, 0, 0]),
         OnPort::WriteSa => plain(1, [WORD, 0, 0, 0, 0]),
         OnPort::BeginFetch => plain(0, [0, 0, 0, 0, 0]),
         OnPort::BeginAnswer => with_text(0, [0, 0, 0, 0, 0]),
@@ -90,11 +89,16 @@ fn port_shape(x: OnPort) -> Shape {
     }
 }
 
+fn handshake_shape(x: OnHandshake) -> Shape {
+    match x {
+        OnHandshake::Begin => plain(5, [BYTE, BYTE, BIT, BYTE, ANY]),
+        OnHandshake::SaSeen => plain(1, [WORD, 0, 0, 0, 0]),
+        OnHandshake::TimeIsUp => plain(0, [0, 0, 0, 0, 0]),
+    }
+}
+
 fn host_shape(x: OnHost) -> Shape {
     match x {
-        OnHost::Begin => plain(5, [BYTE, BYTE, BIT, BYTE, ANY]),
-        OnHost::SaSeen => plain(1, [WORD, 0, 0, 0, 0]),
-        OnHost::TimeIsUp => plain(0, [0, 0, 0, 0, 0]),
         OnHost::SetUp => plain(1, [ANY, 0, 0, 0, 0]),
         OnHost::BeginSend => with_text(1, [BIT, 0, 0, 0, 0]),
         OnHost::BeginTake => plain(0, [0, 0, 0, 0, 0]),
@@ -117,7 +121,9 @@ fn shape_of(x: Name) -> Shape {
     match x {
         Name::Blank => plain(0, [0, 0, 0, 0, 0]),
         Name::Stage(s) => stage_shape(s),
+        Name::Register(_) => plain(0, [0, 0, 0, 0, 0]),
         Name::Port(p) => port_shape(p),
+        Name::Handshake(h) => handshake_shape(h),
         Name::Host(h) => host_shape(h),
         Name::Repeated(_) => step_shape(),
         Name::NoCall(_) => plain(0, [0, 0, 0, 0, 0]),

@@ -4,8 +4,13 @@ use crate::stage::Stage;
 use base_area::Ring;
 use host_state::state::Asked;
 use host_state::state::Beginning;
+use host_state::state::Host;
+use host_state::state::Shaken;
+use host_state::state::Stepped;
 use program_saying::part;
+use program_script::name::OnHandshake;
 use program_script::name::OnHost;
+use program_script::order::Order;
 use program_script::value::Text;
 
 fn beginning_of(n: [u32; 5]) -> Beginning {
@@ -18,44 +23,47 @@ fn beginning_of(n: [u32; 5]) -> Beginning {
     }
 }
 
-fn begin_send(x: Stage, flag: bool, text: Text, mem: &[u8], out: &mut [u8; 65536]) -> Stage {
-    let host = x.host;
+fn begin_send(host: Host, flag: bool, text: Text) -> Stepped {
     let bytes = text.bytes;
     let n = part::within(text.size, &bytes);
-    let r = host_send::begin_send(host, Asked { flag }, &bytes[..n]);
-    x.host_replied(r, mem, out)
+    host_send::begin_send(host, Asked { flag }, &bytes[..n])
 }
 
-fn clear(x: Stage, ring: Ring, mem: &mut [u8], out: &mut [u8; 65536]) -> Stage {
+fn made(host: Host, name: OnHost, order: Order, mem: &mut [u8]) -> Stepped {
+    let numbers = order.numbers;
+    let text = order.text;
+    match name {
+        OnHost::SetUp => host_setup::set_up(host, numbers[0], mem),
+        OnHost::BeginSend => begin_send(host, stage::bit_of(numbers[0]), text),
+        OnHost::BeginTake => host_take::begin_take(host),
+        OnHost::ClearCommand => host_setup::clear_indicator(host, Ring::Command, mem),
+        OnHost::ClearResponse => host_setup::clear_indicator(host, Ring::Response, mem),
+    }
+}
+
+pub fn call(x: Stage, name: OnHost, order: Order, mem: &mut [u8], out: &mut [u8; 65536]) -> Stage {
     let host = x.host;
-    let r = host_setup::clear_indicator(host, ring, mem);
+    let r = made(host, name, order, mem);
     x.host_replied(r, mem, out)
 }
 
-pub fn call(
+fn asked(host: Host, name: OnHandshake, numbers: [u32; 5]) -> Shaken {
+    match name {
+        OnHandshake::Begin => host_handshake::begin(host, beginning_of(numbers)),
+        OnHandshake::SaSeen => host_handshake::sa_seen(host, stage::word_of(numbers[0])),
+        OnHandshake::TimeIsUp => host_handshake::time_is_up(host),
+    }
+}
+
+// The calls that answer with what they ask.
+pub fn handshake(
     x: Stage,
-    name: OnHost,
+    name: OnHandshake,
     numbers: [u32; 5],
-    text: Text,
-    mem: &mut [u8],
+    mem: &[u8],
     out: &mut [u8; 65536],
 ) -> Stage {
     let host = x.host;
-    match name {
-        OnHost::Begin => x.host_asked(host_handshake::begin(host, beginning_of(numbers)), mem, out),
-        OnHost::SaSeen => x.host_asked(
-            host_handshake::sa_seen(host, stage::word_of(numbers[0])),
-            mem,
-            out,
-        ),
-        OnHost::TimeIsUp => x.host_asked(host_handshake::time_is_up(host), mem, out),
-        OnHost::SetUp => {
-            let r = host_setup::set_up(host, numbers[0], mem);
-            x.host_replied(r, mem, out)
-        }
-        OnHost::BeginSend => begin_send(x, stage::bit_of(numbers[0]), text, mem, out),
-        OnHost::BeginTake => x.host_replied(host_take::begin_take(host), mem, out),
-        OnHost::ClearCommand => clear(x, Ring::Command, mem, out),
-        OnHost::ClearResponse => clear(x, Ring::Response, mem, out),
-    }
+    let r = asked(host, name, numbers);
+    x.host_asked(r, mem, out)
 }

@@ -3,8 +3,11 @@ use crate::stage;
 use crate::stage::Stage;
 use port_state::state::Made;
 use port_state::state::Port;
+use port_state::state::Stepped;
 use program_saying::part;
 use program_script::name::OnPort;
+use program_script::name::OnRegister;
+use program_script::order::Order;
 use program_script::value::Text;
 
 fn made_of(n: [u32; 5]) -> Made {
@@ -15,6 +18,36 @@ fn made_of(n: [u32; 5]) -> Made {
         version: stage::byte_of(n[3]),
         limit: stage::byte_of(n[4]),
     }
+}
+
+fn begin_answer(port: Port, text: Text) -> Stepped {
+    let bytes = text.bytes;
+    let n = part::within(text.size, &bytes);
+    port_post::begin_answer(port, &bytes[..n])
+}
+
+fn begin_unsolicited(port: Port, text: Text) -> Stepped {
+    let bytes = text.bytes;
+    let n = part::within(text.size, &bytes);
+    port_post::begin_unsolicited(port, &bytes[..n])
+}
+
+fn made(port: Port, name: OnPort, order: Order, mem: &mut [u8]) -> Stepped {
+    let numbers = order.numbers;
+    let text = order.text;
+    match name {
+        OnPort::Create => Port::create(made_of(numbers)),
+        OnPort::WriteSa => port_registers::write_sa(port, stage::word_of(numbers[0]), mem),
+        OnPort::BeginFetch => port_fetch::begin_fetch(port),
+        OnPort::BeginAnswer => begin_answer(port, text),
+        OnPort::BeginUnsolicited => begin_unsolicited(port, text),
+    }
+}
+
+pub fn call(x: Stage, name: OnPort, order: Order, mem: &mut [u8], out: &mut [u8; 65536]) -> Stage {
+    let port = x.port;
+    let r = made(port, name, order, mem);
+    x.port_replied(r, mem, out)
 }
 
 fn write_ip(x: Stage, mem: &[u8], out: &mut [u8; 65536]) -> Stage {
@@ -32,41 +65,10 @@ fn read_sa(x: Stage, mem: &[u8], out: &mut [u8; 65536]) -> Stage {
     x.port_shown(port, b, mem, out)
 }
 
-fn begin_answer(x: Stage, text: Text, mem: &[u8], out: &mut [u8; 65536]) -> Stage {
-    let port = x.port;
-    let bytes = text.bytes;
-    let n = part::within(text.size, &bytes);
-    let r = port_post::begin_answer(port, &bytes[..n]);
-    x.port_replied(r, mem, out)
-}
-
-fn begin_unsolicited(x: Stage, text: Text, mem: &[u8], out: &mut [u8; 65536]) -> Stage {
-    let port = x.port;
-    let bytes = text.bytes;
-    let n = part::within(text.size, &bytes);
-    let r = port_post::begin_unsolicited(port, &bytes[..n]);
-    x.port_replied(r, mem, out)
-}
-
-pub fn call(
-    x: Stage,
-    name: OnPort,
-    numbers: [u32; 5],
-    text: Text,
-    mem: &mut [u8],
-    out: &mut [u8; 65536],
-) -> Stage {
-    let port = x.port;
+// The calls that answer with no reply.
+pub fn register(x: Stage, name: OnRegister, mem: &[u8], out: &mut [u8; 65536]) -> Stage {
     match name {
-        OnPort::Create => x.port_replied(Port::create(made_of(numbers)), mem, out),
-        OnPort::WriteIp => write_ip(x, mem, out),
-        OnPort::ReadSa => read_sa(x, mem, out),
-        OnPort::WriteSa => {
-            let r = port_registers::write_sa(port, stage::word_of(numbers[0]), mem);
-            x.port_replied(r, mem, out)
-        }
-        OnPort::BeginFetch => x.port_replied(port_fetch::begin_fetch(port), mem, out),
-        OnPort::BeginAnswer => begin_answer(x, text, mem, out),
-        OnPort::BeginUnsolicited => begin_unsolicited(x, text, mem, out),
+        OnRegister::WriteIp => write_ip(x, mem, out),
+        OnRegister::ReadSa => read_sa(x, mem, out),
     }
 }

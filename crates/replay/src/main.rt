@@ -17,20 +17,31 @@ use stage::Stage;
 // The longest script.
 const LONGEST: usize = 1048576;
 
-// What an order asks. A call is lent the bytes that the script lends, and no more.
+// What a call on a half asks. It is lent the bytes that the script lends, and no more.
+fn call(x: Stage, order: Order, mem: &mut [u8], out: &mut [u8; 65536]) -> Stage {
+    let name = order.name;
+    let numbers = order.numbers;
+    match name {
+        Name::Blank => x,
+        Name::Stage(_) => x,
+        Name::Register(call) => made_on_port::register(x, call, mem, out),
+        Name::Port(call) => made_on_port::call(x, call, order, mem, out),
+        Name::Handshake(call) => made_on_host::handshake(x, call, numbers, mem, out),
+        Name::Host(call) => made_on_host::call(x, call, order, mem, out),
+        Name::Repeated(side) => steps::times(x, side, numbers[0], mem, out),
+        Name::NoCall(reason) => x.stops(reason, out),
+    }
+}
+
+// What an order asks.
 fn obey(x: Stage, order: Order, mem: &mut [u8], out: &mut [u8; 65536]) -> Stage {
     let name = order.name;
     let numbers = order.numbers;
-    let text = order.text;
-    let lent = part::within(x.lent, mem);
-    match name {
-        Name::Blank => x,
-        Name::Stage(call) => made_on_stage::call(x, call, numbers, mem, out),
-        Name::Port(call) => made_on_port::call(x, call, numbers, text, &mut mem[..lent], out),
-        Name::Host(call) => made_on_host::call(x, call, numbers, text, &mut mem[..lent], out),
-        Name::Repeated(side) => steps::times(x, side, numbers[0], &mut mem[..lent], out),
-        Name::NoCall(reason) => x.stops(reason, out),
+    if let Name::Stage(asked) = name {
+        return made_on_stage::call(x, asked, numbers, mem, out);
     }
+    let lent = part::within(x.lent, mem);
+    call(x, order, &mut mem[..lent], out)
 }
 
 // One line of a script.
@@ -71,7 +82,12 @@ fn read(text: &mut [u8; 1048577]) -> Got {
     standard::read_all(text)
 }
 
-fn play_read(text: &[u8; 1048577], n: usize, mem: &mut [u8; 262400], out: &mut [u8; 65536]) -> bool {
+fn play_read(
+    text: &[u8; 1048577],
+    n: usize,
+    mem: &mut [u8; 262400],
+    out: &mut [u8; 65536],
+) -> bool {
     if LONGEST < n {
         return io::write_all(1, b"script too long\n");
     }

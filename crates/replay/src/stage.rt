@@ -38,18 +38,28 @@ pub fn word_of(n: u32) -> u16 {
     (n % 65536) as u16
 }
 
-// Why a line is no call.
-fn because(out: &mut [u8; 65536], at: usize, reason: Reason) -> usize {
+// Why a line is no call, as a place in a list.
+fn place_of(reason: Reason) -> usize {
     match reason {
-        Reason::NoSuchWord => part::name(out, at, b"no such word"),
-        Reason::NumberMissing => part::name(out, at, b"a number is missing"),
-        Reason::NotANumber => part::name(out, at, b"not a number"),
-        Reason::NumberTooLarge => part::name(out, at, b"the number is too large"),
-        Reason::TextMissing => part::name(out, at, b"a text is missing"),
-        Reason::NotAText => part::name(out, at, b"not a text"),
-        Reason::TextTooLong => part::name(out, at, b"the text is longer than 64 bytes"),
-        Reason::SomethingFollows => part::name(out, at, b"something follows"),
+        Reason::NoSuchWord => 0,
+        Reason::NumberMissing => 1,
+        Reason::NotANumber => 2,
+        Reason::NumberTooLarge => 3,
+        Reason::TextMissing => 4,
+        Reason::NotAText => 5,
+        Reason::TextTooLong => 6,
+        Reason::SomethingFollows => 7,
     }
+}
+
+fn because(out: &mut [u8; 65536], at: usize, reason: Reason) -> usize {
+    let k = part::name(out, at, b"not a call: ");
+    part::nth(
+        out,
+        k,
+        b"no such word,a number is missing,not a number,the number is too large,a text is missing,not a text,the text is longer than 64 bytes,something follows",
+        place_of(reason),
+    )
 }
 
 // The end of a call's line: the memory's sum.
@@ -154,9 +164,8 @@ impl Stage {
     // The line is no call.
     pub fn stops(mut self, reason: Reason, out: &mut [u8; 65536]) -> Stage {
         let a = self.starts(out);
-        let b = part::name(out, a, b"not a call:");
-        let c = because(out, b, reason);
-        self.at = part::end(out, c);
+        let b = because(out, a, reason);
+        self.at = part::end(out, b);
         self.over = true;
         self
     }

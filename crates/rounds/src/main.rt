@@ -168,8 +168,14 @@ fn wanted_in(text: &[u8]) -> Wanted {
 
 // How the program is used.
 fn usage() {
-    io::write_all(2, b"usage: rounds reads a line COMMAND RESPONSE SIZE COUNT, in decimal:\n");
-    io::write_all(2, b"ring exponents 0 to 7, bytes of a text 0 to 60, rounds 0 to 1000000\n");
+    io::write_all(
+        2,
+        b"usage: rounds reads a line COMMAND RESPONSE SIZE COUNT, in decimal:\n",
+    );
+    io::write_all(
+        2,
+        b"ring exponents 0 to 7, bytes of a text 0 to 60, rounds 0 to 1000000\n",
+    );
 }
 
 fn obey(input: &[u8], mem: &mut [u8]) {
