@@ -10,7 +10,6 @@ use host_state::state::Stepped;
 use program_saying::part;
 use program_script::name::OnHandshake;
 use program_script::name::OnHost;
-use program_script::order::Order;
 use program_script::value::Text;
 
 fn beginning_of(n: [u32; 5]) -> Beginning {
@@ -29,9 +28,7 @@ fn begin_send(host: Host, flag: bool, text: Text) -> Stepped {
     host_send::begin_send(host, Asked { flag }, &bytes[..n])
 }
 
-fn made(host: Host, name: OnHost, order: Order, mem: &mut [u8]) -> Stepped {
-    let numbers = order.numbers;
-    let text = order.text;
+fn made(host: Host, name: OnHost, numbers: [u32; 5], text: Text, mem: &mut [u8]) -> Stepped {
     match name {
         OnHost::SetUp => host_setup::set_up(host, numbers[0], mem),
         OnHost::BeginSend => begin_send(host, stage::bit_of(numbers[0]), text),
@@ -41,9 +38,16 @@ fn made(host: Host, name: OnHost, order: Order, mem: &mut [u8]) -> Stepped {
     }
 }
 
-pub fn call(x: Stage, name: OnHost, order: Order, mem: &mut [u8], out: &mut [u8; 65536]) -> Stage {
+pub fn call(
+    x: Stage,
+    name: OnHost,
+    numbers: [u32; 5],
+    text: Text,
+    mem: &mut [u8],
+    out: &mut [u8; 65536],
+) -> Stage {
     let host = x.host;
-    let r = made(host, name, order, mem);
+    let r = made(host, name, numbers, text, mem);
     x.host_replied(r, mem, out)
 }
 

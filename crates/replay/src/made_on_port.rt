@@ -7,7 +7,6 @@ use port_state::state::Stepped;
 use program_saying::part;
 use program_script::name::OnPort;
 use program_script::name::OnRegister;
-use program_script::order::Order;
 use program_script::value::Text;
 
 fn made_of(n: [u32; 5]) -> Made {
@@ -32,9 +31,7 @@ fn begin_unsolicited(port: Port, text: Text) -> Stepped {
     port_post::begin_unsolicited(port, &bytes[..n])
 }
 
-fn made(port: Port, name: OnPort, order: Order, mem: &mut [u8]) -> Stepped {
-    let numbers = order.numbers;
-    let text = order.text;
+fn made(port: Port, name: OnPort, numbers: [u32; 5], text: Text, mem: &mut [u8]) -> Stepped {
     match name {
         OnPort::Create => Port::create(made_of(numbers)),
         OnPort::WriteSa => port_registers::write_sa(port, stage::word_of(numbers[0]), mem),
@@ -44,31 +41,38 @@ fn made(port: Port, name: OnPort, order: Order, mem: &mut [u8]) -> Stepped {
     }
 }
 
-pub fn call(x: Stage, name: OnPort, order: Order, mem: &mut [u8], out: &mut [u8; 65536]) -> Stage {
+pub fn call(
+    x: Stage,
+    name: OnPort,
+    numbers: [u32; 5],
+    text: Text,
+    mem: &mut [u8],
+    out: &mut [u8; 65536],
+) -> Stage {
     let port = x.port;
-    let r = made(port, name, order, mem);
+    let r = made(port, name, numbers, text, mem);
     x.port_replied(r, mem, out)
 }
 
-fn write_ip(x: Stage, mem: &[u8], out: &mut [u8; 65536]) -> Stage {
-    let port = x.port;
-    let fresh = port_registers::write_ip(port);
-    let a = x.starts(out);
-    let b = part::name(out, a, b"done");
-    x.port_shown(fresh, b, mem, out)
-}
-
-fn read_sa(x: Stage, mem: &[u8], out: &mut [u8; 65536]) -> Stage {
-    let port = x.port;
-    let a = x.starts(out);
-    let b = part::word(out, a, port_registers::sa(port));
-    x.port_shown(port, b, mem, out)
-}
-
-// The calls that answer with no reply.
-pub fn register(x: Stage, name: OnRegister, mem: &[u8], out: &mut [u8; 65536]) -> Stage {
+// The port after a call that answers with no reply.
+fn touched(port: Port, name: OnRegister) -> Port {
     match name {
-        OnRegister::WriteIp => write_ip(x, mem, out),
-        OnRegister::ReadSa => read_sa(x, mem, out),
+        OnRegister::WriteIp => port_registers::write_ip(port),
+        OnRegister::ReadSa => port,
     }
+}
+
+// Its answer: `done`, or what SA reads.
+fn told(out: &mut [u8; 65536], at: usize, port: Port, name: OnRegister) -> usize {
+    match name {
+        OnRegister::WriteIp => part::name(out, at, b"done"),
+        OnRegister::ReadSa => part::word(out, at, port_registers::sa(port)),
+    }
+}
+
+pub fn register(x: Stage, name: OnRegister, mem: &[u8], out: &mut [u8; 65536]) -> Stage {
+    let port = x.port;
+    let a = x.starts(out);
+    let b = told(out, a, port, name);
+    x.port_shown(touched(port, name), b, mem, out)
 }

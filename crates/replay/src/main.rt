@@ -17,31 +17,22 @@ use stage::Stage;
 // The longest script.
 const LONGEST: usize = 1048576;
 
-// What a call on a half asks. It is lent the bytes that the script lends, and no more.
-fn call(x: Stage, order: Order, mem: &mut [u8], out: &mut [u8; 65536]) -> Stage {
-    let name = order.name;
-    let numbers = order.numbers;
-    match name {
-        Name::Blank => x,
-        Name::Stage(_) => x,
-        Name::Register(call) => made_on_port::register(x, call, mem, out),
-        Name::Port(call) => made_on_port::call(x, call, order, mem, out),
-        Name::Handshake(call) => made_on_host::handshake(x, call, numbers, mem, out),
-        Name::Host(call) => made_on_host::call(x, call, order, mem, out),
-        Name::Repeated(side) => steps::times(x, side, numbers[0], mem, out),
-        Name::NoCall(reason) => x.stops(reason, out),
-    }
-}
-
-// What an order asks.
+// What an order asks. A call is lent the bytes that the script lends, and no more.
 fn obey(x: Stage, order: Order, mem: &mut [u8], out: &mut [u8; 65536]) -> Stage {
     let name = order.name;
     let numbers = order.numbers;
-    if let Name::Stage(asked) = name {
-        return made_on_stage::call(x, asked, numbers, mem, out);
-    }
+    let text = order.text;
     let lent = part::within(x.lent, mem);
-    call(x, order, &mut mem[..lent], out)
+    match name {
+        Name::Blank => x,
+        Name::Stage(call) => made_on_stage::call(x, call, numbers, mem, out),
+        Name::Register(call) => made_on_port::register(x, call, &mem[..lent], out),
+        Name::Port(call) => made_on_port::call(x, call, numbers, text, &mut mem[..lent], out),
+        Name::Handshake(call) => made_on_host::handshake(x, call, numbers, &mem[..lent], out),
+        Name::Host(call) => made_on_host::call(x, call, numbers, text, &mut mem[..lent], out),
+        Name::Repeated(side) => steps::times(x, side, numbers[0], &mut mem[..lent], out),
+        Name::NoCall(reason) => x.stops(reason, out),
+    }
 }
 
 // One line of a script.

@@ -116,27 +116,27 @@ impl Stage {
         self
     }
 
-    fn with_host(self, host: Host) -> Stage {
+    fn with_host(self, host: Host, at: usize) -> Stage {
         let port = self.port;
         Stage {
             host,
             port,
             lent: self.lent,
             line: self.line,
-            at: self.at,
+            at,
             over: self.over,
             unwritten: self.unwritten,
         }
     }
 
-    fn with_port(self, port: Port) -> Stage {
+    fn with_port(self, port: Port, at: usize) -> Stage {
         let host = self.host;
         Stage {
             host,
             port,
             lent: self.lent,
             line: self.line,
-            at: self.at,
+            at,
             over: self.over,
             unwritten: self.unwritten,
         }
@@ -175,7 +175,7 @@ impl Stage {
         let a = part::bar(out, at);
         let b = of_port::state(out, a, port);
         let c = closed(out, b, mem);
-        self.with_port(port).printed(c)
+        self.with_port(port, c)
     }
 
     // The host after a call whose answer is put: the rest of the line.
@@ -183,7 +183,7 @@ impl Stage {
         let a = part::bar(out, at);
         let b = of_host::state(out, a, host);
         let c = closed(out, b, mem);
-        self.with_host(host).printed(c)
+        self.with_host(host, c)
     }
 
     // The whole line of a call that the port replied to.
