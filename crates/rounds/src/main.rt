@@ -123,24 +123,23 @@ fn met(command: u32, response: u32, mem: &mut [u8]) -> Run {
     }
 }
 
-// Whether the line was written.
-fn print(count: u32, x: Run) -> bool {
-    let mut out = [0u8; 65536];
-    let a = part::put_all(&mut out, 0, b"rounds");
-    let b = part::number(&mut out, a, count);
-    let c = part::name(&mut out, b, b"steps");
-    let d = part::number(&mut out, c, x.steps);
-    let e = part::name(&mut out, d, b"sum");
-    let f = sum::shown(&mut out, e, x.sum);
-    let g = part::end(&mut out, f);
-    standard::write(&out, g)
+// The line, and where it ends.
+fn put(out: &mut [u8; 65536], count: u32, x: Run) -> usize {
+    let a = part::put_all(out, 0, b"rounds");
+    let b = part::number(out, a, count);
+    let c = part::name(out, b, b"steps");
+    let d = part::number(out, c, x.steps);
+    let e = part::name(out, d, b"sum");
+    let f = sum::shown(out, e, x.sum);
+    part::end(out, f)
 }
 
 // What the four numbers ask. Whether it was written.
-fn measure(n: [u32; 5], mem: &mut [u8]) -> bool {
+fn measure(n: [u32; 5], mem: &mut [u8], out: &mut [u8; 65536]) -> bool {
     let start = met(n[0], n[1], mem);
     let x = rounds(start, n[2] as usize, n[3], mem);
-    print(n[3], x)
+    let k = put(out, n[3], x);
+    standard::write(out, k)
 }
 
 // Whether four numbers were read, and which.
@@ -178,7 +177,7 @@ fn usage() {
     );
 }
 
-fn obey(input: &[u8], mem: &mut [u8]) {
+fn obey(input: &[u8], mem: &mut [u8], out: &mut [u8; 65536]) {
     let from = 0;
     let end = line::next_of(input, from, b'\n');
     let wanted = wanted_in(&input[from..end]);
@@ -187,7 +186,7 @@ fn obey(input: &[u8], mem: &mut [u8]) {
         return;
     }
     let numbers = wanted.numbers;
-    if !measure(numbers, mem) {
+    if !measure(numbers, mem, out) {
         io::write_all(2, b"rounds: can't write\n");
     }
 }
@@ -201,5 +200,6 @@ fn main() {
     }
     let n = got.size;
     let mut mem = [0u8; 32768];
-    obey(&input[..n], &mut mem);
+    let mut out = [0u8; 65536];
+    obey(&input[..n], &mut mem, &mut out);
 }

@@ -28,16 +28,20 @@ fn halves(out: &mut [u8; 65536], at: usize, line: Line) -> usize {
     part::word(out, e, line.sa)
 }
 
+// The line, and where it ends.
+fn put(out: &mut [u8; 65536], line: Line) -> usize {
+    let a = operations(out, line);
+    let b = halves(out, a, line);
+    part::end(out, b)
+}
+
 // Whether the line was written.
-fn print(line: Line) -> bool {
+fn print(out: &mut [u8; 65536], line: Line) -> bool {
     if line.refused {
         return io::write_all(1, b"refused\n");
     }
-    let mut out = [0u8; 65536];
-    let a = operations(&mut out, line);
-    let b = halves(&mut out, a, line);
-    let c = part::end(&mut out, b);
-    standard::write(&out, c)
+    let n = put(out, line);
+    standard::write(out, n)
 }
 
 // The input is read until it ends or 4,097 bytes have come: one more than a schedule has.
@@ -50,8 +54,9 @@ fn main() {
     }
     let n = got.size;
     let mut mem = [0u8; 32768];
+    let mut out = [0u8; 65536];
     let line = program_scheduling::run(&input[..n], &mut mem);
-    if !print(line) {
+    if !print(&mut out, line) {
         io::write_all(2, b"schedule: can't write\n");
     }
 }
