@@ -87,7 +87,7 @@ fn credits(stage: u64, n: u8) -> u64 {
 }
 
 // A number of a host whose handshake is finished.
-fn at_end(name: u64, n: u64) -> u64 {
+fn if_finished(name: u64, n: u64) -> u64 {
     if name == item::FINISHED { n } else { 0 }
 }
 
@@ -105,11 +105,11 @@ fn own(out: &mut [u8; 65536], at: usize, h: Host) -> usize {
         w.first as u64,
         w.second as u64,
         w.third as u64,
-        at_end(x.name, item::bit(h.ready)),
-        at_end(x.name, h.pool as u64),
-        at_end(x.name, c.send as u64),
-        at_end(x.name, c.take as u64),
-        at_end(x.name, c.account as u64),
+        if_finished(x.name, item::bit(h.ready)),
+        if_finished(x.name, h.pool as u64),
+        if_finished(x.name, c.send as u64),
+        if_finished(x.name, c.take as u64),
+        if_finished(x.name, c.account as u64),
     ];
     item::items(
         out,

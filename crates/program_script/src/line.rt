@@ -18,7 +18,7 @@ pub fn next_of(s: &[u8], from: usize, b: u8) -> usize
 }
 
 // Where the line starts that follows one: after the line feed at its end, or at the very end.
-pub fn after(s: &[u8], from: usize, end: usize) -> usize
+pub fn following(s: &[u8], from: usize, end: usize) -> usize
     requires { ⌜ (from ≤ end) × (from < length (now s)) ⌝ }
     ensures { λ r. ⌜ (from < r) × (r ≤ length (now (s .entry))) ⌝ }
 {

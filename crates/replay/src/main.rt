@@ -47,7 +47,7 @@ fn run(text: &[u8], mem: &mut [u8], out: &mut [u8; 65536]) -> Stage {
     let mut from = 0;
     while from < text.len() {
         let end = line::next_of(text, from, b'\n');
-        let next = line::after(text, from, end);
+        let next = line::following(text, from, end);
         x = obey_line(x, &text[from..end], mem, out);
         if x.over {
             return x;

@@ -21,8 +21,8 @@ loop-holds c = search needs
 next-of-requires : tie.Need-next-of-requires Inv-loop μ-loop
 next-of-requires c κs = search needs
 
-after-requires : tie.Need-after-requires Inv-loop μ-loop
-after-requires c κs = search needs
+following-requires : tie.Need-following-requires Inv-loop μ-loop
+following-requires c κs = search needs
 
 sub-obey-line : tie.Need-sub-obey-line Inv-loop μ-loop
 sub-obey-line c = search needs
@@ -63,7 +63,7 @@ run-spec =
     new-requires
     loop-holds
     next-of-requires
-    after-requires
+    following-requires
     sub-obey-line
     part-obey-line-start
     part-obey-line-end
