@@ -50,7 +50,8 @@ use Rattle.port_state.specs.declared.state.Side.{Side}
 use Rattle.port_state.specs.declared.state.Side.the-variants.{Idle, At, Tail}
 use Rattle.port_state.specs.declared.state.Port.{Port}
 use Rattle.fact_layout.proofs.Rings.{lt-or-ge}
-use Rattle.fact_credit.specs.Credit.{Call, writesIp, writesSa, beginsFetch, stepsFetch, beginsPost, stepsPost, after, Ledger, opened, releasing, isOn, released, noted, played, reckoned, codeOf, Reckoned, EveryLedger, Happens}
+use Rattle.port_state.specs.Calls.{Call, writesIp, writesSa, beginsFetch, stepsFetch, beginsPost, stepsPost, after, played}
+use Rattle.fact_credit.specs.Credit.{Ledger, opened, releasing, isOn, released, noted, reckoned, codeOf, Reckoned, EveryLedger, Happens}
 
 -- a fetch that has passed its header has a credit; an answer under way has an open command
 abbrev Ahead : ℕ → ℕ → Side → Type 0

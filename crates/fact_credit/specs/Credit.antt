@@ -17,11 +17,11 @@ use Rattle.base_rules.specs.Rules.{faultOf}
 use Rattle.base_rules.specs.declared.Fault.the-variants.{Sound}
 use Rattle.base_area.specs.declared.Area.{Area}
 use Rattle.base_side.specs.declared.Cursor.{Cursor}
-use Rattle.port_state.specs.State.{servingOf, fresh}
-use Rattle.port_state.specs.Shake.{created, saWritten}
-use Rattle.port_state.specs.Fetch.{creditOut, fetchAsks, fetchStep, fetchBegun}
-use Rattle.port_state.specs.Post.{creditsOf, postStep, postBegun}
-use Rattle.port_state.specs.declared.state.Asked.{Asked}
+use Rattle.port_state.specs.State.{servingOf}
+use Rattle.port_state.specs.Shake.{created}
+use Rattle.port_state.specs.Fetch.{creditOut, fetchAsks, fetchStep}
+use Rattle.port_state.specs.Post.{creditsOf, postStep}
+use Rattle.port_state.specs.Calls.{Call, writesIp, writesSa, beginsFetch, stepsFetch, beginsPost, stepsPost, after, played}
 use Rattle.port_state.specs.declared.state.Made.{Made}
 use Rattle.port_state.specs.declared.state.Serving.{Serving}
 use Rattle.port_state.specs.declared.state.Serving.the-variants.{Off, On}
@@ -29,35 +29,6 @@ use Rattle.port_state.specs.declared.state.Stage.the-variants.{High, Low, Lengt
 use Rattle.port_state.specs.declared.state.Side.{Side}
 use Rattle.port_state.specs.declared.state.Side.the-variants.{Idle, At, Tail}
 use Rattle.port_state.specs.declared.state.Port.{Port}
-
--- A call of the port, with the memory that it is lent. (A read of SA changes nothing.)
-pub data Call : Type 0 where
-  writesIp : Call
-  writesSa : ℕ → Memory → Call
-  beginsFetch : Call
-  stepsFetch : Memory → Call
-  beginsPost : Asked → List ℕ → Call
-  stepsPost : Memory → Call
-
--- One of each kind.
-abbrev pub kinds : List Call
-kinds =
-    writesIp
-    ∷ writesSa 0 []
-    ∷ beginsFetch
-    ∷ stepsFetch []
-    ∷ beginsPost (record { answers = true }) []
-    ∷ stepsPost []
-    ∷ []
-
--- The port after a call, over the number of address bits.
-abbrev pub after : ℕ → Call → Port → Port
-after n writesIp p = fresh (p .made)
-after n (writesSa w m) p = saWritten n p w m .state
-after n beginsFetch p = fetchBegun p .state
-after n (stepsFetch m) p = fetchStep n p m .state
-after n (beginsPost x t) p = postBegun p x t .state
-after n (stepsPost m) p = postStep n p m .state
 
 -- What the calls since the last write to IP come to: commands fetched, and credits granted, the first one among them.
 pub record Ledger : Type 0 where
@@ -92,10 +63,6 @@ noted beginsFetch p q l = l
 noted (stepsFetch m) p q l = cond (released (p .fetcher) p q) (record { fetched = l .fetched + 1; granted = l .granted }) l
 noted (beginsPost x t) p q l = l
 noted (stepsPost m) p q l = cond (released (p .poster) p q) (record { fetched = l .fetched; granted = l .granted + creditsOf p }) l
-
-abbrev pub played : ℕ → List Call → Port → Port
-played n [] p = p
-played n (c ∷ cs) p = played n cs (after n c p)
 
 abbrev pub reckoned : ℕ → List Call → Port → Ledger → Ledger
 reckoned n [] p l = l

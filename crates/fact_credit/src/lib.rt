@@ -2,7 +2,8 @@
 // any memory. The contract carries the fact; the function counts the kinds of call.
 ghost use mathlib.Core.Path.{_≡_};
 ghost use lib.ListN.{length};
-ghost use Rattle.fact_credit.specs.Credit.{kinds, EveryLedger, Happens};
+ghost use Rattle.port_state.specs.Calls.{kinds};
+ghost use Rattle.fact_credit.specs.Credit.{EveryLedger, Happens};
 
 pub fn every_ledger() -> u16
     ensures { λ r. ⌜ (r ≡ length kinds) × EveryLedger × Happens ⌝ }

@@ -5,3 +5,4 @@ pub mod Shake
 pub mod Setup
 pub mod Send
 pub mod Take
+pub mod Calls

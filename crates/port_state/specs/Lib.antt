@@ -5,3 +5,4 @@ pub mod Tail
 pub mod Side
 pub mod Fetch
 pub mod Post
+pub mod Calls
