@@ -51,7 +51,7 @@ use Rattle.port_state.specs.declared.state.Side.the-variants.{Idle, At, Tail}
 use Rattle.port_state.specs.declared.state.Port.{Port}
 use Rattle.fact_layout.proofs.Rings.{lt-or-ge}
 use Rattle.port_state.specs.Calls.{Call, writesIp, writesSa, beginsFetch, stepsFetch, beginsPost, stepsPost, after, played}
-use Rattle.fact_credit.specs.Credit.{Ledger, opened, releasing, isOn, released, noted, reckoned, codeOf, Reckoned, EveryLedger, Happens}
+use Rattle.fact_credit.specs.Credit.{Ledger, opened, releasing, isOn, released, fetchedOne, grantedBy, noted, reckoned, codeOf, Reckoned, EveryLedger, Happens}
 
 -- a fetch that has passed its header has a credit; an answer under way has an open command
 abbrev Ahead : ℕ → ℕ → Side → Type 0
@@ -186,10 +186,7 @@ module _ (p : Port) (l : Ledger) (K : Kept p l) where
     tail-step (Broken x) = fails x
 
     -- the release: one more command is fetched, and open
-    abbrev one-fetched : Ledger
-    one-fetched = record { fetched = l .fetched + 1; granted = l .granted }
-
-    fetched-kept : p .fetcher ≡ At Release c → (x : Side) → ((k m : ℕ) → Ahead k m x) → Kept (withFetcher (fetched p a c) x) one-fetched
+    fetched-kept : p .fetcher ≡ At Release c → (x : Side) → ((k m : ℕ) → Ahead k m x) → Kept (withFetcher (fetched p a c) x) (fetchedOne l)
     unfolding fetched
     fetched-kept e x t =
         let h : p .counts .owed + p .counts .unanswered < p .made .limit = subst (λ (y : Side). Ahead (p .counts .owed + p .counts .unanswered) (p .made .limit) y) e (K .ahead) in
@@ -202,7 +199,7 @@ module _ (p : Port) (l : Ledger) (K : Kept p l) where
         }
 
     release-step : p .fetcher ≡ At Release c → servingOf (p .phase) ≡ On a → (w : Word)
-        → Kept (fetchFollows n p a end Release c w .state) (cond (isOn (servingOf (fetchFollows n p a end Release c w .state .phase))) one-fetched l)
+        → Kept (fetchFollows n p a end Release c w .state) (cond (isOn (servingOf (fetchFollows n p a end Release c w .state .phase))) (fetchedOne l) l)
     unfolding fetchFollows fetchRelease fetched
     release-step e f Outside = fails _
     release-step e f (Value v) = go (isSet flagged (c .high))
@@ -214,7 +211,7 @@ module _ (p : Port) (l : Ledger) (K : Kept p l) where
             (isOn
             (servingOf
             (cond b (onward (withFetcher (fetched p a c) (Tail (tailStart a Command) c))) (fetchClosed (fetched p a c) c false) .state .phase)))
-            one-fetched
+            (fetchedOne l)
             l)
         go true = rw f (fetched-kept e (Tail (tailStart a Command) c) (λ k m. tt))
         go false = rw f (fetched-kept e Idle (λ k m. tt))
@@ -223,7 +220,7 @@ module _ (p : Port) (l : Ledger) (K : Kept p l) where
   fetch-case : (n : ℕ) (m : Memory) (x : Side) (s : Serving) → p .fetcher ≡ x → servingOf (p .phase) ≡ s
       → Kept (portStep n p Command (fetchAsks n) (fetchFollows n p) (fetchTailed p) m x s .state)
       (cond (releasing x && (isOn s && isOn (servingOf (portStep n p Command (fetchAsks n) (fetchFollows n p) (fetchTailed p) m x s .state .phase))))
-      (record { fetched = l .fetched + 1; granted = l .granted }) l)
+      (fetchedOne l) l)
   unfolding portStep
   fetch-case n m x Off e f = never (releasing x) (withFetcher p Idle) _ (fetch-to Idle tt)
   fetch-case n m Idle (On a) e f = fetch-to Idle tt
@@ -274,9 +271,6 @@ module _ (p : Port) (l : Ledger) (K : Kept p l) where
     tail-post (Broken x) = fails x
 
     -- the release: an answer closes a command and grants what it carries
-    abbrev more-granted : Ledger
-    more-granted = record { fetched = l .fetched; granted = l .granted + creditsOf p }
-
     granted-sum : (b : Bool) (o u g k : ℕ) → (b ≡ true → 1 ≤ u) → o + u + g ≡ k → cond b (leftOf o) o + cond b (u - 1) u + (g + cond b (carriedOf o) 0) ≡ k
     granted-sum true o u g k d e = omega (arith, d refl, e, nothing-lost o)
     granted-sum false o u g k d e = omega (arith, e)
@@ -285,11 +279,11 @@ module _ (p : Port) (l : Ledger) (K : Kept p l) where
     granted-less true o u = omega (arith, nothing-lost o, carried-bounds o .0)
     granted-less false o u = omega arith
 
-    posted-kept : Due (p .asked .answers) (p .counts .unanswered) (At Release c) → (x : Side) → ((b : Bool) (u : ℕ) → Due b u x) → Kept (withPoster (posted p a c) x) more-granted
+    posted-kept : Due (p .asked .answers) (p .counts .unanswered) (At Release c) → (x : Side) → ((b : Bool) (u : ℕ) → Due b u x) → Kept (withPoster (posted p a c) x) (grantedBy p l)
     unfolding posted creditsOf
     posted-kept d x t =
         record {
-          sum = granted-sum (p .asked .answers) (p .counts .owed) (p .counts .unanswered) (l .granted) (p .made .limit + l .fetched) d (K .sum);
+          sum = omega (arith, granted-sum (p .asked .answers) (p .counts .owed) (p .counts .unanswered) (l .granted) (p .made .limit + l .fetched) d (K .sum));
           some = K .some;
           most = K .most;
           ahead = ahead-less (p .counts .owed + p .counts .unanswered) _ (p .made .limit) (p .fetcher) (granted-less (p .asked .answers) (p .counts .owed) (p .counts .unanswered)) (K .ahead);
@@ -297,7 +291,7 @@ module _ (p : Port) (l : Ledger) (K : Kept p l) where
         }
 
     release-post : Due (p .asked .answers) (p .counts .unanswered) (At Release c) → servingOf (p .phase) ≡ On a → (w : Word)
-        → Kept (postFollows n p a end Release c w .state) (cond (isOn (servingOf (postFollows n p a end Release c w .state .phase))) more-granted l)
+        → Kept (postFollows n p a end Release c w .state) (cond (isOn (servingOf (postFollows n p a end Release c w .state .phase))) (grantedBy p l) l)
     unfolding postFollows postRelease posted
     release-post d f Outside = fails _
     release-post d f (Value v) = go (isSet flagged (c .high))
@@ -309,7 +303,7 @@ module _ (p : Port) (l : Ledger) (K : Kept p l) where
             (isOn
             (servingOf
             (cond b (onward (withPoster (posted p a c) (Tail (tailStart a Response) c))) (postClosed (posted p a c) false) .state .phase)))
-            more-granted
+            (grantedBy p l)
             l)
         go true = rw f (posted-kept d (Tail (tailStart a Response) c) (λ b u. tt))
         go false = rw f (posted-kept d Idle (λ b u. tt))
@@ -317,7 +311,7 @@ module _ (p : Port) (l : Ledger) (K : Kept p l) where
   post-case : (n : ℕ) (m : Memory) (x : Side) (s : Serving) → Due (p .asked .answers) (p .counts .unanswered) x → servingOf (p .phase) ≡ s
       → Kept (portStep n p Response (postAsks n p) (postFollows n p) (postTailed p) m x s .state)
       (cond (releasing x && (isOn s && isOn (servingOf (portStep n p Response (postAsks n p) (postFollows n p) (postTailed p) m x s .state .phase))))
-      (record { fetched = l .fetched; granted = l .granted + creditsOf p }) l)
+      (grantedBy p l) l)
   unfolding portStep
   post-case n m x Off d f = never (releasing x) (withPoster p Idle) _ (post-to Idle tt)
   post-case n m Idle (On a) d f = post-to Idle tt

@@ -56,13 +56,20 @@ isOn (On a) = true
 abbrev pub released : Side → Port → Port → Bool
 released x p q = releasing x && (isOn (servingOf (p .phase)) && isOn (servingOf (q .phase)))
 
+-- One more command fetched; and what a posted message carries granted.
+abbrev pub fetchedOne : Ledger → Ledger
+fetchedOne l = record { fetched = l .fetched + 1; granted = l .granted }
+
+abbrev pub grantedBy : Port → Ledger → Ledger
+grantedBy p l = record { fetched = l .fetched; granted = l .granted + creditsOf p }
+
 abbrev pub noted : Call → Port → Port → Ledger → Ledger
 noted writesIp p q l = opened
 noted (writesSa w m) p q l = l
 noted beginsFetch p q l = l
-noted (stepsFetch m) p q l = cond (released (p .fetcher) p q) (record { fetched = l .fetched + 1; granted = l .granted }) l
+noted (stepsFetch m) p q l = cond (released (p .fetcher) p q) (fetchedOne l) l
 noted (beginsPost x t) p q l = l
-noted (stepsPost m) p q l = cond (released (p .poster) p q) (record { fetched = l .fetched; granted = l .granted + creditsOf p }) l
+noted (stepsPost m) p q l = cond (released (p .poster) p q) (grantedBy p l) l
 
 abbrev pub reckoned : ℕ → List Call → Port → Ledger → Ledger
 reckoned n [] p l = l
