@@ -1,9 +1,11 @@
 // What both halves answer: refusals and fatal codes by document 01's names, and the reply that carries them.
+#![tactic(auto)]
+
 ghost use Rattle.std.specs.Prelude.{◌≡◌};
 ghost use Rattle.base_answers.specs.Told.{refusal_number, fatal_number, bare_reply, full_reply};
 
 // "Refusal numbers", document 01.
-#[derive(Drop)]
+#[derive(Clone, Copy, Drop)]
 pub enum Refusal {
     NotRunning,
     Busy,
@@ -20,7 +22,7 @@ pub enum Refusal {
 }
 
 // The fatal codes of document 004, chapter 7, that document 01 uses.
-#[derive(Drop)]
+#[derive(Clone, Copy, Drop)]
 pub enum Fatal {
     EnvelopeRead,
     EnvelopeWrite,
@@ -33,7 +35,7 @@ pub enum Fatal {
 }
 
 // How a call closes.
-#[derive(Drop)]
+#[derive(Clone, Copy, Drop)]
 pub enum Said {
     Going,
     Done,
@@ -42,7 +44,7 @@ pub enum Said {
 }
 
 // An answer: how the call closed, the text it carries, and whether it reports an interrupt.
-#[derive(Drop)]
+#[derive(Clone, Copy, Drop)]
 pub struct Reply {
     pub said: Said,
     pub size: u16,

@@ -1,5 +1,7 @@
 // The communications area and the host's pool, read off the host's three handshake words.
 // Both halves keep those words; every place follows from them, so no word that was heard needs checking again.
+#![tactic(auto)]
+
 ghost use Rattle.std.specs.Prelude.{◌≡◌, ◌+◌, ◌*◌, ◌<◌, ◌≤◌, ◌-◌, ◌^◌, cond, ◌&&◌, leb};
 ghost use Rattle.base_words.specs.Words.{address_bits};
 ghost use Rattle.base_area.specs.Layout.{slots, slot_count, base, number_of, slot_at, next_of, before_of, alone, indicator, envelope_at, has_vector, step_interrupt, area_lies, area_cleared};
@@ -15,14 +17,14 @@ use base_words::{descriptor, hostword};
 pub const ENVELOPE: usize = 64;
 
 // The host's Step 1, Step 2 and Step 3 words.
-#[derive(Drop)]
+#[derive(Clone, Copy, Drop)]
 pub struct Area {
     pub first: u16,
     pub second: u16,
     pub third: u16,
 }
 
-#[derive(Drop)]
+#[derive(Clone, Copy, Drop)]
 pub enum Ring {
     Command,
     Response,

@@ -1,5 +1,7 @@
 // Host memory: a lent run of bytes of any length and content. Words are two bytes, low byte first.
 // No call asks anything of its caller: a word that lies outside is answered with Outside, and nothing changes.
+#![tactic(auto)]
+
 ghost use Rattle.std.specs.Prelude.{◌≡◌, ◌+◌, ◌*◌, ◌-◌, ◌/◌, ◌%◌, ◌≤◌, length, replicate};
 ghost use Rattle.base_words.specs.Words.{address_bits};
 ghost use Rattle.base_memory.specs.Memory.{usable, inside, lies, word_at, with_word, cleared};
@@ -9,14 +11,14 @@ ghost use Rattle.base_memory.specs.OneWord.{found, left};
 const END: usize = base_words::descriptor::END as usize;
 
 // What stands at an address: a word, or nothing of this memory.
-#[derive(Drop)]
+#[derive(Clone, Copy, Drop)]
 pub enum Word {
     Value(u16),
     Outside,
 }
 
 // What a step does to memory: it touches one word at most.
-#[derive(Drop)]
+#[derive(Clone, Copy, Drop)]
 pub enum Touch {
     Nothing,
     // A word below address 0.

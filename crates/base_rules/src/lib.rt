@@ -1,11 +1,13 @@
 // The two rules that both halves go by: what an envelope's header must say, and what an answer grants.
+#![tactic(auto)]
+
 ghost use Rattle.std.specs.Prelude.{◌≡◌, ◌≤◌};
 ghost use Rattle.base_rules.specs.Rules.{fault_of, carried_of, left_of};
 
 use base_answers::Fatal;
 
 // What is wrong with an envelope.
-#[derive(Drop)]
+#[derive(Clone, Copy, Drop)]
 pub enum Fault {
     Sound,
     Unsound(Fatal),

@@ -1,11 +1,13 @@
 // What every side of both halves is made of. Here is where its operation stands; the definitions of specs/ say, over the half's
 // record, what a call leaves, and what a step is: the word that a stage asks for, and what follows from the word found, or from none.
+#![tactic(auto)]
+
 ghost use Rattle.std.specs.Prelude.{◌≡◌};
 ghost use Rattle.base_side.specs.Place.{start_of, with_high, with_envelope, with_size, with_at, has_word};
 
 // Where an operation stands: its slot, that slot's high word as read, where the envelope starts, the text's length, the next
 // text word. What else goes with a message stands beside its text in the half.
-#[derive(Drop)]
+#[derive(Clone, Copy, Drop)]
 pub struct Cursor {
     pub envelope: u32,
     pub high: u16,

@@ -1,4 +1,6 @@
 // Texts of 0 to 60 bytes in a room of 60, zero beyond their length, taken and filled a word at a time.
+#![tactic(auto)]
+
 ghost use Rattle.std.specs.Prelude.{◌≡◌, ◌≤◌, length};
 ghost use Rattle.base_texts.specs.Texts.{words_of, zeros, byte_at, with_byte, word_of, with_text, padded};
 

@@ -1,4 +1,6 @@
 // Host and port reach "running" together. The contract carries the fact; the function counts the exchanges.
+#![tactic(auto)]
+
 ghost use Rattle.std.specs.Prelude.{◌≡◌, length};
 ghost use Rattle.fact_meeting.specs.Meeting.{enough, sights, EveryMeeting, EveryWay};
 

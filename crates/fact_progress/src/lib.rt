@@ -1,4 +1,6 @@
 // Every operation ends, after exactly the steps that document 01 lists. The contract carries the fact; the function counts the operations.
+#![tactic(auto)]
+
 ghost use Rattle.std.specs.Prelude.{◌≡◌, length};
 ghost use Rattle.fact_progress.specs.Instance.{EveryPremiseMet};
 ghost use Rattle.fact_progress.specs.Progress.{operations, EveryOperationEnds};

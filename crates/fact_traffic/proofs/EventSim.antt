@@ -104,7 +104,7 @@ module _ (g : Site) (end : ℕ) (b : Bounds) (S' : Setting g end b) (h : Host) (
 
   -- an envelope of the pool starts where 32 bits say
   near : (r : Ring) (i : ℕ) → i < slots g.area r → h.area ≡ g.area → h.pool ≡ g.pool → HostState.envelope_of h r i ≡ envelope_at g.area g.pool r i
-  near r i l a q = rw (a, q) (omega (arith, F.envelope_inside r i l, S'.End-low, pow_mono S'.narrow))
+  near r i l a q = rw (a, q) (omega (arith, F.envelope_inside r i l, S'.end_low, pow_mono S'.narrow))
 
   ---------------------------------------------------------------- beginning a send
 

@@ -536,7 +536,7 @@ module _ (g : Site) (end : ℕ) (b : Bounds) (S : Setting g end b) (h : Host) (p
       }
     where
       low : (i : ℕ) → i < slots g.area Command → envelope_at g.area g.pool Command i + 4 < 2 ^ g.bits
-      low i l = omega (arith, F.envelope_inside Command i l, S.End-low)
+      low i l = omega (arith, F.envelope_inside Command i l, S.end_low)
 
       lows : (s : ℕ) → s < slots g.area Command
           → view g (with_word g.bits m (addr g (slot_word Command h.counts.send 2)) (high_word true h.asked.flag (with_address g.bits c.high (envelope_at g.area g.pool Command h.counts.send + 4)))) (slot_word Command s 0)

@@ -1,4 +1,6 @@
 // Traffic in any order: demand 3. The contract carries the theorem, so that it can't be lost unseen; the function counts the rings.
+#![tactic(auto)]
+
 ghost use Rattle.std.specs.Prelude.{◌≡◌, ◌*◌, ◌^◌, length};
 ghost use Rattle.base_words.specs.Fields.{command_exponent, response_exponent};
 ghost use Rattle.fact_layout.specs.Facts.{both_rings};

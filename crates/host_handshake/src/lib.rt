@@ -1,4 +1,6 @@
 // The host's side of the handshake: its beginning, a word of SA seen, the end of its time.
+#![tactic(auto)]
+
 ghost use Rattle.std.specs.Prelude.{◌≡◌};
 ghost use Rattle.base_words.specs.Words.{address_bits};
 ghost use Rattle.host_state.specs.State.{with_shake};

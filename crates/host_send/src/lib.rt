@@ -1,4 +1,6 @@
 // The host's send side: a command is written into its envelope and slot, a word a step.
+#![tactic(auto)]
+
 ghost use Rattle.std.specs.Prelude.{◌≡◌};
 ghost use Rattle.base_words.specs.Words.{address_bits};
 ghost use Rattle.base_side.specs.Step.{with_memory};

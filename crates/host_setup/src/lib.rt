@@ -1,4 +1,6 @@
 // What the host does to its area outside the two sides: the setup, and the clearing of an indicator.
+#![tactic(auto)]
+
 ghost use Rattle.std.specs.Prelude.{◌≡◌};
 ghost use Rattle.base_words.specs.Words.{address_bits};
 ghost use Rattle.base_side.specs.Step.{with_memory};

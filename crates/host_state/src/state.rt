@@ -13,7 +13,7 @@ use base_side::Cursor;
 const MOST_ADDRESS: usize = 4294967295;
 
 // What a beginning is given: exponents, IE, vector/4 and the ring base.
-#[derive(Drop)]
+#[derive(Clone, Copy, Drop)]
 pub struct Beginning {
     pub command: u8,
     pub response: u8,
@@ -23,7 +23,7 @@ pub struct Beginning {
 }
 
 // The four steps of the handshake.
-#[derive(Drop)]
+#[derive(Clone, Copy, Drop)]
 pub enum Step {
     One,
     Two,
@@ -32,7 +32,7 @@ pub enum Step {
 }
 
 // Where the handshake stands: dead, expecting a step (and whether IP was written a second time), or finished.
-#[derive(Drop)]
+#[derive(Clone, Copy, Drop)]
 pub enum Shake {
     Dead,
     Expect(Step, bool),
@@ -40,7 +40,7 @@ pub enum Shake {
 }
 
 // What the host half asks of its caller in the handshake.
-#[derive(Drop)]
+#[derive(Clone, Copy, Drop)]
 pub enum Act {
     WriteIp,
     WriteSa(u16),
@@ -52,14 +52,14 @@ pub enum Act {
 }
 
 // What a send is asked beside its text: the flag F.
-#[derive(Drop)]
+#[derive(Clone, Copy, Drop)]
 pub struct Asked {
     pub flag: bool,
 }
 
 // What a send or a take does next: which word of the slot or the envelope it touches. Closing is the word before the high word:
 // a send's low word, a take's 60 as length.
-#[derive(Drop)]
+#[derive(Clone, Copy, Drop)]
 pub enum Stage {
     High,
     Length,
@@ -70,14 +70,14 @@ pub enum Stage {
 }
 
 // "A half has two sides, each with at most one operation": the send side and the take side.
-#[derive(Drop)]
+#[derive(Clone, Copy, Drop)]
 pub enum Side {
     Idle,
     At(Stage, Cursor),
 }
 
 // The next slot of each side, and the credit account.
-#[derive(Drop)]
+#[derive(Clone, Copy, Drop)]
 pub struct Counts {
     pub send: u8,
     pub take: u8,
@@ -86,7 +86,7 @@ pub struct Counts {
 
 // The host. The texts stand beside the sides, since an enum holds no array; with the text of a send what it was asked, with
 // the text of a take the credits that its envelope carries.
-#[derive(Drop)]
+#[derive(Clone, Copy, Drop)]
 pub struct Host {
     pub shake: Shake,
     pub area: Area,
@@ -102,14 +102,14 @@ pub struct Host {
 }
 
 // An answer, and the host after it.
-#[derive(Drop)]
+#[derive(Clone, Copy, Drop)]
 pub struct Stepped {
     pub reply: Reply,
     pub host: Host,
 }
 
 // What a handshake call asks, the length and the 60 bytes that every answer has, and the host after it.
-#[derive(Drop)]
+#[derive(Clone, Copy, Drop)]
 pub struct Shaken {
     pub act: Act,
     pub size: u16,

@@ -1,4 +1,6 @@
 // The host's take side: a response is read out of its envelope and its slot given back, a word a step.
+#![tactic(auto)]
+
 ghost use Rattle.std.specs.Prelude.{◌≡◌};
 ghost use Rattle.base_words.specs.Words.{address_bits};
 ghost use Rattle.base_side.specs.Step.{with_memory};

@@ -1,4 +1,6 @@
 // The port's fetch side: a command is read out of its slot and envelope, a word a step.
+#![tactic(auto)]
+
 ghost use Rattle.std.specs.Prelude.{◌≡◌, ◌+◌};
 ghost use Rattle.base_words.specs.Words.{address_bits};
 ghost use Rattle.base_side.specs.Step.{with_memory};

@@ -1,4 +1,6 @@
 // The port's post side: an answer or an unsolicited message is written into a response slot's envelope, a word a step.
+#![tactic(auto)]
+
 ghost use Rattle.std.specs.Prelude.{◌≡◌, true, false};
 ghost use Rattle.base_words.specs.Words.{address_bits};
 ghost use Rattle.base_side.specs.Step.{with_memory};

@@ -1,4 +1,6 @@
 // The port's registers IP and SA: what is written to them, what SA shows, and with that the port's side of the handshake.
+#![tactic(auto)]
+
 ghost use Rattle.std.specs.Prelude.{◌≡◌, false};
 ghost use Rattle.base_words.specs.Words.{address_bits};
 ghost use Rattle.base_answers.specs.Told.{bare_reply};

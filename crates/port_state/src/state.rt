@@ -9,7 +9,7 @@ use base_area::{Area, Ring};
 use base_side::Cursor;
 
 // What creation gave: kept through every write to IP.
-#[derive(Drop)]
+#[derive(Clone, Copy, Drop)]
 pub struct Made {
     pub nv: bool,
     pub qb: bool,
@@ -20,7 +20,7 @@ pub struct Made {
 
 // Where the port stands: the handshake's steps with the host's words so far, wrap, running, or a fatal error.
 // Running keeps the word with GO.
-#[derive(Drop)]
+#[derive(Clone, Copy, Drop)]
 pub enum Phase {
     Step1,
     Wrap(u16),
@@ -32,14 +32,14 @@ pub enum Phase {
 }
 
 // Whether the port runs, and the area that it then serves.
-#[derive(Drop)]
+#[derive(Clone, Copy, Drop)]
 pub enum Serving {
     Off,
     On(Area),
 }
 
 // What a fetch or a post does next: which word of the slot or the envelope it touches.
-#[derive(Drop)]
+#[derive(Clone, Copy, Drop)]
 pub enum Stage {
     High,
     Low,
@@ -50,14 +50,14 @@ pub enum Stage {
 }
 
 // What the tail of a fetch or a post does next: the previous slot's test, or the indicator.
-#[derive(Drop)]
+#[derive(Clone, Copy, Drop)]
 pub enum TailStage {
     Test,
     Mark,
 }
 
 // What a tail step comes to: the indicator next, the end with or without an interrupt, or a fatal error.
-#[derive(Drop)]
+#[derive(Clone, Copy, Drop)]
 pub enum TailEnd {
     Onward,
     Closed(bool),
@@ -65,7 +65,7 @@ pub enum TailEnd {
 }
 
 // "A half has two sides, each with at most one operation": the fetch side and the post side.
-#[derive(Drop)]
+#[derive(Clone, Copy, Drop)]
 pub enum Side {
     Idle,
     At(Stage, Cursor),
@@ -73,13 +73,13 @@ pub enum Side {
 }
 
 // What a post is asked beside its text: whether it answers a command.
-#[derive(Drop)]
+#[derive(Clone, Copy, Drop)]
 pub struct Asked {
     pub answers: bool,
 }
 
 // The next slot of each side, the credits still to grant, and the commands fetched and not answered.
-#[derive(Drop)]
+#[derive(Clone, Copy, Drop)]
 pub struct Counts {
     pub fetch: u8,
     pub post: u8,
@@ -88,7 +88,7 @@ pub struct Counts {
 }
 
 // The port. The texts stand beside the sides, since an enum holds no array, and with the text of a post what it was asked.
-#[derive(Drop)]
+#[derive(Clone, Copy, Drop)]
 pub struct Port {
     pub made: Made,
     pub phase: Phase,
@@ -101,7 +101,7 @@ pub struct Port {
 }
 
 // An answer, and the port after it.
-#[derive(Drop)]
+#[derive(Clone, Copy, Drop)]
 pub struct Stepped {
     pub reply: Reply,
     pub port: Port,

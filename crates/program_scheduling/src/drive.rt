@@ -7,7 +7,7 @@ use crate::machine::Machine;
 use host_state::state::Asked;
 
 // The four sides.
-#[derive(Drop)]
+#[derive(Clone, Copy, Drop)]
 pub enum Side {
     Send,
     Take,

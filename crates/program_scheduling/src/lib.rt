@@ -1,5 +1,7 @@
 // Document 01, "The schedule program": both halves driven over one memory by a schedule of bytes, and the line that it prints.
 // Every call is total: any schedule, any memory, any state gets an answer.
+#![tactic(auto)]
+
 ghost use Rattle.std.specs.Prelude.{◌≡◌};
 ghost use Rattle.program_scheduling.specs.Schedule.{byte_of, takes, refused_line, line_of, reported, run_of};
 
@@ -10,7 +12,7 @@ pub mod opening;
 use machine::Machine;
 
 // The line that is printed: `refused`, or the nine numbers.
-#[derive(Drop)]
+#[derive(Clone, Copy, Drop)]
 pub struct Line {
     pub refused: bool,
     pub sent: u32,

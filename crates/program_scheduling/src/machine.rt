@@ -7,7 +7,7 @@ use host_state::state::Host;
 use port_state::state::Port;
 
 // How many operations are finished, and how many indicator writes were reported, by ring. Each number wraps at 2^32.
-#[derive(Drop)]
+#[derive(Clone, Copy, Drop)]
 pub struct Tally {
     pub sent: u32,
     pub taken: u32,
@@ -18,7 +18,7 @@ pub struct Tally {
 }
 
 // Both halves, the tally, and the texts of the commands fetched: that of command number k stands at k mod 64.
-#[derive(Drop)]
+#[derive(Clone, Copy, Drop)]
 pub struct Machine {
     pub host: Host,
     pub port: Port,

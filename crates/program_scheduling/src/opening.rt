@@ -10,7 +10,7 @@ use host_state::state::{Act, Beginning, Host};
 use port_state::state::{Made, Port};
 
 // The two halves.
-#[derive(Drop)]
+#[derive(Clone, Copy, Drop)]
 pub struct Halves {
     pub host: Host,
     pub port: Port,

@@ -1,4 +1,6 @@
 // The program of docs/SCRIPTS.md: reads a script of calls on standard input, makes them, and prints a line for each.
+#![tactic(auto)]
+
 mod made_on_host;
 mod made_on_port;
 mod made_on_stage;

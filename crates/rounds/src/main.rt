@@ -1,5 +1,7 @@
 // Rounds to be measured: a command sent, fetched, answered with its own text, and the answer taken, again and again.
 // Reads one line, `COMMAND RESPONSE SIZE COUNT`: the ring exponents, the texts' length and the number of rounds, in decimal.
+#![tactic(auto)]
+
 mod side;
 
 use base_answers::Reply;

@@ -1,4 +1,6 @@
 // Document 01, "The schedule program": reads a schedule on standard input and prints one line.
+#![tactic(auto)]
+
 use program_saying::{part, standard};
 use program_scheduling::Line;
 

@@ -1,0 +1,12 @@
+use Prim.Native.Nat.{◌≤◌, ◌-◌}
+use mathlib.Core.Path.{◌≡◌}
+use mathlib.Core.List.{◌++◌}
+use lib.ListN.{length, drop, replicate}
+use Rattle.base_memory.proofs.clear.Given as goal
+
+abbrev pub invariant-loop-i : goal.invariant-loop-i
+invariant-loop-i l = (l.i ≤ length l.initial.part) × ((length l.part ≡ length l.initial.part) × (l.part ≡ replicate l.i 0 ++ drop l.i l.initial.part))
+
+abbrev pub decreases-loop-i : goal.decreases-loop-i
+decreases-loop-i l = length l.initial.part - l.i
+

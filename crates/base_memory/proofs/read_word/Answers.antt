@@ -1,0 +1,21 @@
+use native.Mathlib.Omega.{arith}
+use lib.ListN.{length}
+use Rattle.base_memory.proofs.Laws.{usable_le, inside_no, inside_yes, word_at_no, word_at_yes}
+use borrow.Author.Rules.{rules}
+use Rattle.base_memory.proofs.read_word.Goals as goal
+
+pub returns-then-end-lt2 : goal.returns-then-end-lt2
+returns-then-end-lt2 c = word_at_no _ _ _ (inside_no _ _ _ _ c.usable_of-end.ensures (search rules))
+
+pub returns-then-end-a : goal.returns-then-end-a
+returns-then-end-a c = word_at_no _ _ _ (inside_no _ _ _ _ c.usable_of-end.ensures (search rules))
+
+pub bounds-mem-a : goal.bounds-mem-a
+bounds-mem-a c = omega (arith, usable_le 18 (length c.args.mem.now))
+
+pub bounds-mem-a-2 : goal.bounds-mem-a-2
+bounds-mem-a-2 c = omega (arith, usable_le 18 (length c.args.mem.now))
+
+pub returns : goal.returns
+returns c = word_at_yes _ _ _ (inside_yes _ _ _ _ c.usable_of-end.ensures (search rules))
+

@@ -1,0 +1,16 @@
+use Rattle.port_state.specs.Post.{post_step}
+use Rattle.port_state.proofs.SideLaws.{step_off, step_idle, step_on, step_tail}
+use Rattle.port_post.proofs.step_post.Goals as goal
+
+pub returns-in_default : goal.returns-in_default
+returns-in_default c = unfold post_step in step_off _ _ _ _ _ _ _ _ c.serving_of-serving.ensures c.in_default.is c.refused.ensures
+
+pub returns-in-Idle : goal.returns-in-Idle
+returns-in-Idle c = unfold post_step in step_idle _ _ _ _ _ _ _ _ c.serving_of-serving.ensures c.in-On.is c.in-Idle.is c.refused-in-Idle.ensures
+
+pub returns-in-At : goal.returns-in-At
+returns-in-At c = unfold post_step in step_on _ _ _ _ _ _ _ _ c.serving_of-serving.ensures c.in-On.is c.in-At.is c.usable_of-end.ensures c.post_asks.ensures c.touched-w.ensures c.post_follows.ensures
+
+pub returns-in-Tail : goal.returns-in-Tail
+returns-in-Tail c = unfold post_step in step_tail _ _ _ _ _ _ _ _ c.serving_of-serving.ensures c.in-On.is c.in-Tail.is c.tail_step-x.ensures c.post_tailed.ensures
+
