@@ -4,7 +4,7 @@ use base_answers::{Reply, Said};
 use host_state::state::Act;
 
 // The first word of an answer, by its place in the list of `listed`, and what follows it: nothing, a number or a word of 16 bits.
-#[derive(Drop)]
+#[derive(Clone, Copy, Drop)]
 struct First {
     place: usize,
     kind: u8,

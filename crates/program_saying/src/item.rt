@@ -116,7 +116,7 @@ pub fn of_busy(stage: u64, b: bool) -> u64 {
 }
 
 // A side: what its next step touches, and where its operation stands; all 0 if it is idle.
-#[derive(Drop)]
+#[derive(Clone, Copy, Drop)]
 pub struct Stand {
     pub stage: u64,
     pub slot: u64,

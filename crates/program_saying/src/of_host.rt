@@ -14,7 +14,7 @@ fn step_number(x: Step) -> u64 {
 }
 
 // What a handshake is called, the step that it expects, and whether IP was written a second time.
-#[derive(Drop)]
+#[derive(Clone, Copy, Drop)]
 struct Shaking {
     name: u64,
     step: u64,

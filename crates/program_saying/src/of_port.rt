@@ -4,7 +4,7 @@ use crate::{item, part};
 use port_state::state::{Counts, Phase, Port, Side, Stage, TailStage};
 
 // What a phase is called and holds; 0 for what it does not hold.
-#[derive(Drop)]
+#[derive(Clone, Copy, Drop)]
 struct Held {
     name: u64,
     fatal: u16,

@@ -2,9 +2,10 @@
 ghost use Rattle.io.specs.Counts.{IsPrefixLen};
 
 use crate::part;
+use std::io::{Read, Write};
 
 // How many bytes were read, and whether all that there was could be.
-#[derive(Drop)]
+#[derive(Clone, Copy, Drop)]
 pub struct Got {
     pub size: usize,
     pub good: bool,
@@ -18,16 +19,14 @@ fn got_of(buf: &[u8], n: usize, good: bool) -> Got
 }
 
 // Reads until the input ends, the buffer is full or a read fails.
-pub fn read_all(buf: &mut [u8]) -> Got
+pub fn read_all<R: Read>(input: &mut R, buf: &mut [u8]) -> Got
     ensures { IsPrefixLen result.size buf.new }
 {
     let mut done = 0;
     while done < buf.len() {
-        let came = libc::read(0, &mut buf[done..]);
-        if came < 0 {
+        let Ok(more) = input.read(&mut buf[done..]) else {
             return got_of(buf, done, false);
-        }
-        let more = io::count(came, &buf[done..]);
+        };
         if more == 0 {
             return got_of(buf, done, true);
         }
@@ -36,8 +35,13 @@ pub fn read_all(buf: &mut [u8]) -> Got
     got_of(buf, done, true)
 }
 
+// Writes some bytes; whether all of them were written.
+pub fn write_all<W: Write>(output: &mut W, bytes: &[u8]) -> bool {
+    output.write_all(bytes).is_ok()
+}
+
 // Writes the start of a buffer; whether all of it was written.
-pub fn write(out: &[u8], n: usize) -> bool {
+pub fn write<W: Write>(output: &mut W, out: &[u8], n: usize) -> bool {
     let k = part::within(n, out);
-    io::write_all(1, &out[..k])
+    write_all(output, &out[..k])
 }

@@ -3,26 +3,26 @@ use crate::line;
 use crate::reason::Reason;
 
 // The sides of a port, and of a host.
-#[derive(Drop)]
+#[derive(Clone, Copy, Drop)]
 pub enum PortSide {
     Fetch,
     Post,
 }
 
-#[derive(Drop)]
+#[derive(Clone, Copy, Drop)]
 pub enum HostSide {
     Send,
     Take,
 }
 
 // A step call of any of the four sides stands apart: it may be made more than once.
-#[derive(Drop)]
+#[derive(Clone, Copy, Drop)]
 pub enum OnSide {
     Port(PortSide),
     Host(HostSide),
 }
 
-#[derive(Drop)]
+#[derive(Clone, Copy, Drop)]
 pub enum OnStage {
     Afresh,
     Memory,
@@ -32,14 +32,14 @@ pub enum OnStage {
 }
 
 // Calls of the port that answer with no reply.
-#[derive(Drop)]
+#[derive(Clone, Copy, Drop)]
 pub enum OnRegister {
     WriteIp,
     ReadSa,
 }
 
 // Calls of the port that answer with a reply.
-#[derive(Drop)]
+#[derive(Clone, Copy, Drop)]
 pub enum OnPort {
     Create,
     WriteSa,
@@ -49,7 +49,7 @@ pub enum OnPort {
 }
 
 // Calls of the host that answer with what they ask.
-#[derive(Drop)]
+#[derive(Clone, Copy, Drop)]
 pub enum OnHandshake {
     Begin,
     SaSeen,
@@ -57,7 +57,7 @@ pub enum OnHandshake {
 }
 
 // Calls of the host that answer with a reply.
-#[derive(Drop)]
+#[derive(Clone, Copy, Drop)]
 pub enum OnHost {
     SetUp,
     BeginSend,
@@ -67,7 +67,7 @@ pub enum OnHost {
 }
 
 // What a line is: blank (empty or a comment), a call, or no call.
-#[derive(Drop)]
+#[derive(Clone, Copy, Drop)]
 pub enum Name {
     Blank,
     Stage(OnStage),

@@ -21,7 +21,7 @@ const TIMES: u32 = 100000;
 
 // What stands after a name: some numbers, each with the largest that it may be, and then a text or none.
 // A number that may be left out is 1.
-#[derive(Drop)]
+#[derive(Clone, Copy, Drop)]
 pub struct Shape {
     pub count: usize,
     pub most: [u32; 5],
@@ -30,7 +30,7 @@ pub struct Shape {
 }
 
 // How far a line is read: to its end, to the start of another word, or no further, for a reason.
-#[derive(Drop)]
+#[derive(Clone, Copy, Drop)]
 pub enum Place {
     End,
     At(usize),
@@ -38,7 +38,7 @@ pub enum Place {
 }
 
 // A line that was read.
-#[derive(Drop)]
+#[derive(Clone, Copy, Drop)]
 pub struct Order {
     pub name: Name,
     pub numbers: [u32; 5],
@@ -135,7 +135,7 @@ fn after(line: &[u8], end: usize) -> Place {
 }
 
 // A number read, and the place after it.
-#[derive(Drop)]
+#[derive(Clone, Copy, Drop)]
 struct Counted {
     value: u32,
     place: Place,
@@ -183,7 +183,7 @@ fn number_at(line: &[u8], place: Place, most: u32) -> Counted {
 }
 
 // The numbers of a shape, and the place after them.
-#[derive(Drop)]
+#[derive(Clone, Copy, Drop)]
 pub struct Numbers {
     pub values: [u32; 5],
     pub place: Place,
@@ -206,7 +206,7 @@ fn numbers_at(line: &[u8], start: Place, shape: Shape) -> Numbers {
 }
 
 // A text read, and the place after it.
-#[derive(Drop)]
+#[derive(Clone, Copy, Drop)]
 struct Written {
     text: Text,
     place: Place,

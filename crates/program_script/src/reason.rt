@@ -1,5 +1,5 @@
 // Why a line is no call. A line is read from left to right, and the first reason counts.
-#[derive(Drop)]
+#[derive(Clone, Copy, Drop)]
 pub enum Reason {
     NoSuchWord,
     NumberMissing,

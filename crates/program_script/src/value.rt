@@ -7,7 +7,7 @@ const MOST: u64 = 4294967295;
 // The longest text that can be written; beyond 60 it is there to be refused.
 pub const LONGEST: usize = 64;
 
-#[derive(Drop)]
+#[derive(Clone, Copy, Drop)]
 pub enum Number {
     Is(u32),
     TooLarge,
@@ -15,7 +15,7 @@ pub enum Number {
 }
 
 // A text of at most 64 bytes, zero beyond its length; or none, where the word is no text.
-#[derive(Drop)]
+#[derive(Clone, Copy, Drop)]
 pub struct Text {
     pub good: bool,
     pub size: usize,

@@ -3,13 +3,14 @@ use host_state::state::Host;
 use port_state::state::{Made, Port};
 use program_saying::{answer, of_host, of_port, part, standard, sum};
 use program_script::reason::Reason;
+use std::io::Write;
 
 // The buffer is written once it is half full: the other half has room for any line.
 const HALF: usize = 32768;
 
 // `line` is the number of the line that is read, `at` where its answer goes in the buffer, `over` whether no more lines are read, and
 // `unwritten` whether that is because the buffer could not be written.
-#[derive(Drop)]
+#[derive(Clone, Copy, Drop)]
 pub struct Stage {
     pub host: Host,
     pub port: Port,
@@ -138,11 +139,11 @@ impl Stage {
     }
 
     // Makes room for a line.
-    pub fn roomy(mut self, out: &[u8; 65536]) -> Stage {
+    pub fn roomy<W: Write>(mut self, output: &mut W, out: &[u8; 65536]) -> Stage {
         if self.at < HALF {
             return self;
         }
-        let written = standard::write(out, self.at);
+        let written = standard::write(output, out, self.at);
         self.at = 0;
         if !written {
             self.over = true;

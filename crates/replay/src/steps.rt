@@ -3,6 +3,7 @@ use crate::stage::Stage;
 use host_state::state::Host;
 use port_state::state::Port;
 use program_script::name::{HostSide, OnSide, PortSide};
+use std::io::Write;
 
 fn port_step(port: Port, side: PortSide, mem: &mut [u8]) -> port_state::state::Stepped {
     match side {
@@ -33,11 +34,18 @@ fn step(x: Stage, side: OnSide, mem: &mut [u8], out: &mut [u8; 65536]) -> Stage 
     }
 }
 
-pub fn times(start: Stage, side: OnSide, n: u32, mem: &mut [u8], out: &mut [u8; 65536]) -> Stage {
+pub fn times<W: Write>(
+    output: &mut W,
+    start: Stage,
+    side: OnSide,
+    n: u32,
+    mem: &mut [u8],
+    out: &mut [u8; 65536],
+) -> Stage {
     let mut x = start;
     let mut left = n;
     while left > 0 {
-        x = step(x, side, mem, out).roomy(out);
+        x = step(x, side, mem, out).roomy(output, out);
         if x.over {
             return x;
         }

@@ -11,9 +11,10 @@ use program_saying::{part, standard, sum};
 use program_scheduling::opening;
 use program_script::order::Place;
 use program_script::{line, order};
+use std::io::Write;
 
 // Both halves, the step calls made, and the sum of the texts taken.
-#[derive(Drop)]
+#[derive(Clone, Copy, Drop)]
 struct Run {
     host: Host,
     port: Port,
@@ -50,7 +51,7 @@ fn and(a: u32, b: u32) -> u32 {
 }
 
 // A command that was sent and fetched.
-#[derive(Drop)]
+#[derive(Clone, Copy, Drop)]
 struct Fetched {
     host: Host,
     port: Port,
@@ -136,15 +137,15 @@ fn put(out: &mut [u8; 65536], count: u32, x: Run) -> usize {
 }
 
 // What the four numbers ask. Whether it was written.
-fn measure(n: [u32; 5], mem: &mut [u8], out: &mut [u8; 65536]) -> bool {
+fn measure<W: Write>(output: &mut W, n: [u32; 5], mem: &mut [u8], out: &mut [u8; 65536]) -> bool {
     let start = met(n[0], n[1], mem);
     let x = rounds(start, n[2] as usize, n[3], mem);
     let k = put(out, n[3], x);
-    standard::write(out, k)
+    standard::write(output, out, k)
 }
 
 // Whether four numbers were read, and which.
-#[derive(Drop)]
+#[derive(Clone, Copy, Drop)]
 struct Wanted {
     good: bool,
     numbers: [u32; 5],
@@ -168,40 +169,40 @@ fn wanted_in(text: &[u8]) -> Wanted {
 }
 
 // How the program is used.
-fn usage() {
-    io::write_all(
-        2,
+fn usage(rt: &HostRuntime) {
+    standard::write_all(
+        &mut rt.stderr(),
         b"usage: rounds reads a line COMMAND RESPONSE SIZE COUNT, in decimal:\n",
     );
-    io::write_all(
-        2,
+    standard::write_all(
+        &mut rt.stderr(),
         b"ring exponents 0 to 7, bytes of a text 0 to 60, rounds 0 to 1000000\n",
     );
 }
 
-fn obey(input: &[u8], mem: &mut [u8], out: &mut [u8; 65536]) {
+fn obey(rt: &HostRuntime, input: &[u8], mem: &mut [u8], out: &mut [u8; 65536]) {
     let from = 0;
     let end = line::next_of(input, from, b'\n');
     let wanted = wanted_in(&input[from..end]);
     if !wanted.good {
-        usage();
+        usage(rt);
         return;
     }
     let numbers = wanted.numbers;
-    if !measure(numbers, mem, out) {
-        io::write_all(2, b"rounds: can't write\n");
+    if !measure(&mut rt.stdout(), numbers, mem, out) {
+        standard::write_all(&mut rt.stderr(), b"rounds: can't write\n");
     }
 }
 
-fn main() {
+fn main(rt: HostRuntime) {
     let mut input = [0u8; 128];
-    let got = standard::read_all(&mut input);
+    let got = standard::read_all(&mut rt.stdin(), &mut input);
     if !got.good {
-        io::write_all(2, b"rounds: can't read\n");
+        standard::write_all(&mut rt.stderr(), b"rounds: can't read\n");
         return;
     }
     let n = got.size;
     let mut mem = [0u8; 32768];
     let mut out = [0u8; 65536];
-    obey(&input[..n], &mut mem, &mut out);
+    obey(&rt, &input[..n], &mut mem, &mut out);
 }

@@ -8,7 +8,7 @@ use program_saying::part;
 const MOST: u32 = 64;
 
 // The end of an operation of the host: its last answer, and how many step calls it took.
-#[derive(Drop)]
+#[derive(Clone, Copy, Drop)]
 pub struct HostEnd {
     pub reply: Reply,
     pub host: Host,
@@ -16,7 +16,7 @@ pub struct HostEnd {
 }
 
 // The end of an operation of the port.
-#[derive(Drop)]
+#[derive(Clone, Copy, Drop)]
 pub struct PortEnd {
     pub reply: Reply,
     pub port: Port,

@@ -3,6 +3,7 @@
 
 use program_saying::{part, standard};
 use program_scheduling::Line;
+use std::io::Write;
 
 // A name and its number.
 fn counted(out: &mut [u8; 65536], at: usize, name: &[u8], n: u32) -> usize {
@@ -37,27 +38,27 @@ fn put(out: &mut [u8; 65536], line: Line) -> usize {
 }
 
 // Whether the line was written.
-fn print(out: &mut [u8; 65536], line: Line) -> bool {
+fn print<W: Write>(output: &mut W, out: &mut [u8; 65536], line: Line) -> bool {
     if line.refused {
-        return io::write_all(1, b"refused\n");
+        return standard::write_all(output, b"refused\n");
     }
     let n = put(out, line);
-    standard::write(out, n)
+    standard::write(output, out, n)
 }
 
 // The input is read until it ends or 4,097 bytes have come: one more than a schedule has.
-fn main() {
+fn main(rt: HostRuntime) {
     let mut input = [0u8; 4097];
-    let got = standard::read_all(&mut input);
+    let got = standard::read_all(&mut rt.stdin(), &mut input);
     if !got.good {
-        io::write_all(2, b"schedule: can't read\n");
+        standard::write_all(&mut rt.stderr(), b"schedule: can't read\n");
         return;
     }
     let n = got.size;
     let mut mem = [0u8; 32768];
     let mut out = [0u8; 65536];
     let line = program_scheduling::run(&input[..n], &mut mem);
-    if !print(&mut out, line) {
-        io::write_all(2, b"schedule: can't write\n");
+    if !print(&mut rt.stdout(), &mut out, line) {
+        standard::write_all(&mut rt.stderr(), b"schedule: can't write\n");
     }
 }

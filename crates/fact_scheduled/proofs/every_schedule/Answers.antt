@@ -1,4 +1,3 @@
--- The theorem is `every_schedule`. Assumes nothing.
 use mathlib.Core.Path.{◌≡◌, refl}
 use lib.ListN.{length}
 use Rattle.program_scheduling.specs.declared.drive.Side.{Side}
@@ -6,17 +5,14 @@ use Rattle.program_scheduling.specs.declared.drive.Side.TheVariants.{Send, Take,
 use Rattle.program_scheduling.specs.declared.machine.Machine.{Machine}
 use Rattle.fact_scheduled.specs.Calls.{turn_calls}
 use Rattle.fact_scheduled.proofs.Schedules.{every_schedule}
-use Rattle.fact_scheduled.proofs.every_schedule.Statement.{statement}
-use Rattle.fact_scheduled.proofs.every_schedule.Tie as tie
+use Rattle.fact_scheduled.proofs.every_schedule.Goals as goal
 
+-- The theorem is `every_schedule`. Assumes nothing.
 two-calls : (s : Side) (x : Machine) → 2 ≡ length (turn_calls s x)
 two-calls Send x = refl
 two-calls Take x = refl
 two-calls Fetch x = refl
 two-calls Answer x = refl
-
-returns : tie.Need-returns
+pub returns : goal.returns
 returns c = (two-calls, every_schedule)
 
-pub every-schedule-spec : {M : Type 1} → statement M
-every-schedule-spec = tie.close (tie.spec returns)
