@@ -37,7 +37,7 @@ unfoldable pub send_high : Host → Cursor → ℕ → Next Host
 send_high h c v =
     cond (eqb h.counts.account 0) (refuse h Command 5) (cond (is_set owner v) (refuse h Command 6) (onward (with_sender h (At Length (with_high c v)))))
 
--- "The high_word_lem write is where index, account and totals change": a send costs 1.
+-- "The high-word write is where index, account and totals change": a send costs 1.
 unfoldable pub sent : Host → Cursor → Host
 sent h c =
     with_counts h (record { send = next_of h.area Command c.slot; take = h.counts.take; account = h.counts.account - 1 })

@@ -49,7 +49,7 @@ take_header h c v = take_sound h c (of credits v) (fault_of (of message_type v) 
 unfoldable pub take_text : Host → Cursor → ℕ → Next Host
 take_text h c v = onward (with_taker (with_incoming h (with_text h.incoming c.size c.at v) h.credits) (text_or_closing c (c.at + 1)))
 
--- The high_word_lem write: the account gains the envelope's credits, "account at most 255".
+-- The high-word write: the account gains the envelope's credits, "account at most 255".
 unfoldable pub taken : Host → Cursor → Host
 taken h c =
     with_counts h (record { send = h.counts.send; take = next_of h.area Response c.slot; account = min (h.counts.account + h.credits) most_account })

@@ -79,7 +79,7 @@ fetch_header p end c v = header_sound p end c (fault_of (of message_type v) (of 
 unfoldable pub fetch_text : Port → Cursor → ℕ → Next Port
 fetch_text p c v = onward (with_fetcher (with_incoming p (with_text p.incoming c.size c.at v)) (text_or_release c (c.at + 1)))
 
--- "The high_word_lem write is where index, account and totals change": one more command is open. The count stays at 255.
+-- "The high-word write is where index, account and totals change": one more command is open. The count stays at 255.
 unfoldable pub fetched : Port → Area → Cursor → Port
 fetched p a c =
     with_counts p (record { fetch = next_of a Command c.slot; post = p.counts.post; owed = p.counts.owed; unanswered = min (p.counts.unanswered + 1) 255 })

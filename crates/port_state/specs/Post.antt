@@ -64,7 +64,7 @@ post_low n p end c v =
     (onward (with_poster p (At Length (with_envelope c (address_of n v c.high - 4)))))
     (fail p EnvelopeWrite)
 
--- The high_word_lem write: an answer closes one open command and grants what it carries.
+-- The high-word write: an answer closes one open command and grants what it carries.
 unfoldable pub posted : Port → Area → Cursor → Port
 posted p a c =
     with_counts p

@@ -74,7 +74,7 @@ unfoldable pub kept : Machine → Bool → ℕ → List ℕ
 kept x b t = cond b (slice_set x.texts (x.tally.fetched % 64) t) x.texts
 
 -- The machine after a step of each side, by that step's answer and the half that it left. A send, a take and a fetch finish
--- with their closing answer; an answer at its high_word_lem write, where the port's open commands become fewer. The fetched text is
+-- with their closing answer; an answer at its high-word write, where the port's open commands become fewer. The fetched text is
 -- kept from the closing answer. A step that reports an interrupt has written its ring's indicator.
 unfoldable pub after_send : Machine → Told → Host → Machine
 after_send x t h = record { host = h; port = x.port; tally = with_sent x.tally (is_done t); texts = x.texts }
