@@ -1,16 +1,15 @@
 -- What a call leaves, from what its callees left: an arm of a match, a test, one touch of memory. One law for each form that the
 -- code takes, whichever half and side it serves. Assumes nothing.
-use Prim.Native.Nat.{ℕ, ◌<◌, ◌≤◌}
-use mathlib.Core.Path.{◌≡◌, refl, sym, ap, ap₂, ◌∙◌}
+use Prim.Native.Nat.{ℕ}
+use mathlib.Core.Path.{◌≡◌, sym, ap, ap₂, ◌∙◌}
 use mathlib.Core.Bool.{Bool, true, false, cond, not}
 use lib.ListN.{length}
-use lib.Dec.{ltb}
-use borrow.Author.Tests.{not-true, not-false, lt-ltb, le-ltb}
+use borrow.Author.Tests.{not-true, not-false}
 use Rattle.base_memory.specs.Memory.{Memory, usable}
 use Rattle.base_memory.specs.OneWord.{found, left}
 use Rattle.base_memory.specs.declared.Word.{Word}
 use Rattle.base_memory.specs.declared.Touch.{Touch}
-use Rattle.base_side.specs.Step.{Next, Outcome, with_memory, stepped}
+use Rattle.base_side.specs.Step.{Next, with_memory, stepped}
 
 -- an arm of a match
 pub by : {A B : Type 0} (f : A → B) {s t : A} {x : B} → s ≡ t → x ≡ f t → x ≡ f s

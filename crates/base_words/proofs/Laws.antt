@@ -6,7 +6,7 @@ use native.Mathlib.Omega.{arith}
 use native.Mathlib.Nat.{one-mul, mod-eq_of_lt}
 use lib.Bits.{bit_and, bit_or, and_mask, and_high, or_shifted, or_shifted_r}
 use lib.Pow.{pow-lt}
-use Rattle.base_words.specs.Fields.{flag, of}
+use Rattle.base_words.specs.Fields.{flag}
 use Rattle.base_words.specs.Words.{step1_word, step2_word, step3_word, step4_word, fatal_word, first_word, high_word, low_word, with_address, address_of, address_bits}
 
 -- 1 shifted within a word

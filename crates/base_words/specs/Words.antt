@@ -1,6 +1,6 @@
 -- The words themselves, each as the sum of its fields, and what two words say together.
 use Rattle.std.specs.Prelude.{ℕ, ◌+◌, ◌*◌, ◌-◌, ◌/◌, ◌^◌, Bool}
-use Rattle.base_words.specs.Fields.{bits, bit, of, put, flag, er, s1, s2, s3, s4, nv, qb, di, port_type, echo, version, fatal_code}
+use Rattle.base_words.specs.Fields.{of, put, flag, er, s1, s2, s3, s4, nv, qb, di, port_type, echo, version, fatal_code}
 use Rattle.base_words.specs.Fields.{one, command_exponent, response_exponent, ie, vector, upper, lower, base_low, go}
 use Rattle.base_words.specs.Fields.{address_low, address_high, owner, flagged, kept, credits}
 

@@ -1,7 +1,7 @@
 -- One induction over the calls: owed + unanswered + granted is the limit + fetched; a fetch past its header has a credit, and an answer
 -- under way an open command. Assumes nothing.
 use Prim.Native.Nat.{ℕ, ◌+◌, ◌*◌, ◌-◌, ◌<◌, ◌≤◌, min}
-use mathlib.Core.Path.{◌≡◌, refl, sym, ap, subst, ◌∙◌}
+use mathlib.Core.Path.{◌≡◌, refl, sym, subst, ◌∙◌}
 use mathlib.Core.Bool.{Bool, true, false, cond, ◌&&◌, false≢true}
 use mathlib.Core.List.{List, [], ◌∷◌}
 use mathlib.Core.Logic.{inl, inr}
@@ -29,7 +29,7 @@ use Rattle.base_area.specs.declared.Ring.TheVariants.{Command, Response}
 use Rattle.base_side.specs.Place.{has_word, with_at, with_envelope, start_of}
 use Rattle.base_side.specs.Step.{Next, onward, denied}
 use Rattle.base_side.specs.declared.Cursor.{Cursor}
-use Rattle.port_state.specs.State.{fail, serving_of, with_phase, with_fetcher, with_poster, with_incoming, with_outgoing, fresh, ended}
+use Rattle.port_state.specs.State.{fail, serving_of, with_phase, with_fetcher, with_poster, with_outgoing, fresh, ended}
 use Rattle.port_state.specs.Shake.{with_limit, moved, ignored, created, first_heard, heard, sa_written}
 use Rattle.port_state.specs.Tail.{tail_start, tail_follows, tail_asks, test_follows, mark_follows}
 use Rattle.port_state.specs.Side.{is_idle, text_or_release, port_step, port_begun}
@@ -51,7 +51,7 @@ use Rattle.port_state.specs.declared.state.Side.TheVariants.{Idle, At, Tail}
 use Rattle.port_state.specs.declared.state.Port.{Port}
 use Rattle.fact_layout.proofs.Rings.{lt_or_ge}
 use Rattle.port_state.specs.Calls.{Call, writes_ip, writes_sa, begins_fetch, steps_fetch, begins_post, steps_post, after, played}
-use Rattle.fact_credit.specs.Credit.{Ledger, opened, releasing, is_on, released, fetched_one, granted_by, noted, reckoned, code_of, Reckoned, EveryLedger, Happens}
+use Rattle.fact_credit.specs.Credit.{Ledger, opened, releasing, is_on, fetched_one, granted_by, noted, reckoned, code_of, Reckoned, EveryLedger, Happens}
 
 -- a fetch that has passed its header has a credit; an answer under way has an open command
 abbrev Ahead : ℕ → ℕ → Side → Type 0

@@ -8,7 +8,6 @@ use native.Mathlib.Nat.{mod-lt, mod-eq_of_lt, mod_self, mul-suc, mul-le-mul_left
 use lib.Dec.{leb, eqb, ltb}
 use lib.Pow.{pow_pos, pow_mono}
 use borrow.Author.Tests.{leb-true, eqb-true, eqb-false, ltb-true, ltb-false, le-leb, ne_eqb}
-use Rattle.base_words.specs.Fields.{of}
 use Rattle.base_area.specs.Layout.{exponent, slots, slot_count, base, number_of, slot_at, rings_end, next_of, before_of, alone, indicator_back, indicator, envelope_at}
 use Rattle.base_area.specs.Setup.{pool_end, fits}
 use Rattle.base_area.specs.declared.Area.{Area}

@@ -1,6 +1,6 @@
 -- Ring and layout facts, shown once for every exponent, over the number of address bits.
 use Rattle.std.specs.Prelude.{ℕ, ◌+◌, ◌-◌, ◌%◌, ◌<◌, ◌≤◌, List, [], ◌∷◌, ◌≡◌, true, false, ◌⊎◌}
-use Rattle.base_area.specs.Layout.{exponent, slots, base, slot_at, rings_end, next_of, before_of, alone, indicator_back, indicator, envelope_at}
+use Rattle.base_area.specs.Layout.{slots, base, slot_at, rings_end, next_of, before_of, alone, indicator_back, indicator, envelope_at}
 use Rattle.base_area.specs.Setup.{pool_end, fits}
 use Rattle.base_area.specs.declared.Area.{Area}
 use Rattle.base_area.specs.declared.Ring.{Ring}

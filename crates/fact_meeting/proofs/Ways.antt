@@ -23,7 +23,7 @@ use Rattle.port_state.specs.declared.state.Phase.{Phase}
 use Rattle.port_state.specs.declared.state.Phase.TheVariants.{Step1, Step2, Step3, Step4, Running}
 use Rattle.port_state.specs.declared.state.Port.{Port}
 use Rattle.host_state.specs.State as HostState
-use Rattle.host_state.specs.Shake.{Turn, turn, writes_sa, waiting, dead, none, port_fatal, accepts, area_of, begun, bit_of, old_of, echoes, reply, onward_from, mishap, expecting, sa_seen, time_up}
+use Rattle.host_state.specs.Shake.{Turn, turn, writes_sa, waiting, none, port_fatal, accepts, area_of, begun, bit_of, old_of, echoes, reply, onward_from, mishap, expecting, sa_seen, time_up}
 use Rattle.host_state.specs.declared.state.Shake.{Shake}
 use Rattle.host_state.specs.declared.state.Shake.TheVariants.{Dead, Expect, Finished}
 use Rattle.host_state.specs.declared.state.Step.{Step}

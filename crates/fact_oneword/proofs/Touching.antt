@@ -1,10 +1,9 @@
 -- Every step is one touch and what follows from the word found; so one law on touches serves all sides. Assumes nothing.
 use Prim.Native.Nat.{ℕ}
-use mathlib.Core.Path.{◌≡◌, refl, sym, ap, ap₂, ◌∙◌}
+use mathlib.Core.Path.{ap₂}
 use mathlib.Core.Bool.{Bool, true, false, cond}
-use lib.ListN.{length, get_or}
-use Rattle.base_memory.specs.Memory.{Memory, usable}
-use Rattle.base_memory.specs.OneWord.{found, left}
+use lib.ListN.{length}
+use Rattle.base_memory.specs.Memory.{usable}
 use Rattle.base_memory.proofs.OneWordLaws.{left_length, left_other, found_same, left_same}
 use Rattle.base_memory.specs.declared.Word.{Word}
 use Rattle.base_memory.specs.declared.Touch.{Touch}
@@ -13,7 +12,7 @@ use Rattle.base_area.specs.Layout.{indicator}
 use Rattle.base_area.specs.declared.Area.{Area}
 use Rattle.base_area.specs.declared.Ring.{Ring}
 use Rattle.base_area.specs.declared.Ring.TheVariants.{Command, Response}
-use Rattle.base_side.specs.Step.{Next, Outcome, with_memory, denied, stepped}
+use Rattle.base_side.specs.Step.{Next, with_memory, denied, stepped}
 use Rattle.base_side.specs.declared.Cursor.{Cursor}
 use Rattle.port_state.specs.State.{serving_of}
 use Rattle.port_state.specs.Tail.{tail_asks, tail_follows}

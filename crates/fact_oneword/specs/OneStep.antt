@@ -8,7 +8,7 @@ use Rattle.base_area.specs.Layout.{indicator}
 use Rattle.base_area.specs.declared.Area.{Area}
 use Rattle.base_area.specs.declared.Ring.{Ring}
 use Rattle.base_area.specs.declared.Ring.TheVariants.{Command, Response}
-use Rattle.base_side.specs.Step.{Next, Outcome, without_memory}
+use Rattle.base_side.specs.Step.{Outcome, without_memory}
 use Rattle.base_side.specs.declared.Cursor.{Cursor}
 use Rattle.port_state.specs.State.{serving_of}
 use Rattle.port_state.specs.Tail.{tail_asks}

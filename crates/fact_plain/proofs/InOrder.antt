@@ -10,7 +10,7 @@ use borrow.Author.Tests.{leb-false, eqb-false}
 use Rattle.base_rules.specs.Rules.{carried_of, left_of}
 use Rattle.base_rules.proofs.Laws.{carried_bounds, nothing_lost}
 use Rattle.fact_plain.specs.Plain.{Entry, Bounds, Plain, entry, full, send, fetch_from, fetch, post, take_from, take}
-use Rattle.fact_plain.specs.Log.{Op, sends, fetches, posts, takes, does, Allowed, Log, nothing, owed_after, noted, credits_in, texts_in, Good, Ran, begin, then, EveryRunInOrder}
+use Rattle.fact_plain.specs.Log.{Op, sends, fetches, posts, takes, does, Allowed, Log, owed_after, noted, credits_in, texts_in, Good, Ran, begin, then, EveryRunInOrder}
 
 -- one message more at the end of a queue
 texts_more : (es : List Entry) (e : Entry) → texts_in (es ++ (e ∷ [])) ≡ texts_in es ++ (e.text ∷ [])

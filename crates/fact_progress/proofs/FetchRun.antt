@@ -20,7 +20,7 @@ use Rattle.base_area.specs.Layout.{slot_at}
 use Rattle.base_area.specs.declared.Area.{Area}
 use Rattle.base_area.specs.declared.Ring.TheVariants.{Command}
 use Rattle.port_state.specs.State.{serving_of, with_fetcher, with_incoming}
-use Rattle.base_side.specs.Step.{Outcome, with_memory, onward, stepped}
+use Rattle.base_side.specs.Step.{Outcome, with_memory, onward}
 use Rattle.base_side.specs.Place.{start_of, with_high, with_envelope, with_size, with_at}
 use Rattle.port_state.specs.Tail.{tail_asks, tail_follows}
 use Rattle.port_state.specs.Fetch.{fetch_asks, fetch_high, fetch_low, credit_out, fetch_header, fetch_text, fetched, fetch_release, fetch_finds, fetch_follows, fetch_tailed, fetch_step, fetch_begun}

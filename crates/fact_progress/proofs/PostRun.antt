@@ -18,8 +18,8 @@ use Rattle.base_answers.specs.Told.{told, going, done}
 use Rattle.base_area.specs.Layout.{slot_at}
 use Rattle.base_area.specs.declared.Area.{Area}
 use Rattle.base_area.specs.declared.Ring.TheVariants.{Response}
-use Rattle.port_state.specs.State.{serving_of, with_poster, with_outgoing}
-use Rattle.base_side.specs.Step.{Outcome, with_memory, onward, stepped}
+use Rattle.port_state.specs.State.{serving_of, with_poster}
+use Rattle.base_side.specs.Step.{Outcome, with_memory, onward}
 use Rattle.base_side.specs.Place.{start_of, with_high, with_envelope, with_at}
 use Rattle.port_state.specs.Tail.{tail_asks, tail_follows}
 use Rattle.port_state.specs.Post.{credits_of, post_asks, post_high, post_low, posted, post_release, post_finds, post_follows, post_tailed, post_step, post_begun}

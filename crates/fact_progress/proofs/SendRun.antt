@@ -15,11 +15,11 @@ use Rattle.base_memory.specs.OneWord.{found, left}
 use Rattle.base_memory.specs.declared.Word.TheVariants.{Value}
 use Rattle.base_memory.proofs.Laws.{with_word_length}
 use Rattle.base_answers.specs.Told.{told, going, done}
-use Rattle.base_area.specs.Layout.{slot_at, envelope_at}
+use Rattle.base_area.specs.Layout.{slot_at}
 use Rattle.base_area.specs.declared.Ring.TheVariants.{Command}
 use Rattle.fact_layout.proofs.Rings.{every_layout}
 use Rattle.host_state.specs.State.{is_ready, envelope_of, with_sender, with_outgoing}
-use Rattle.base_side.specs.Step.{Outcome, with_memory, stepped}
+use Rattle.base_side.specs.Step.{Outcome, with_memory}
 use Rattle.base_side.specs.Place.{start_of, with_high, with_at}
 use Rattle.host_state.specs.Send.{send_asks, send_high, sent, send_finds, send_follows, send_step, send_begun}
 use Rattle.host_state.specs.Side.{text_or_closing, host_step, host_begun}

@@ -19,11 +19,11 @@ use Rattle.base_answers.specs.declared.Fatal.TheVariants.{InvalidConnection, Inc
 use Rattle.base_rules.specs.Rules.{fault_of}
 use Rattle.base_rules.specs.declared.Fault.{Fault}
 use Rattle.base_rules.specs.declared.Fault.TheVariants.{Sound, Unsound}
-use Rattle.base_area.specs.Layout.{slot_at, envelope_at}
+use Rattle.base_area.specs.Layout.{slot_at}
 use Rattle.base_area.specs.declared.Ring.TheVariants.{Response}
 use Rattle.fact_layout.proofs.Rings.{every_layout}
 use Rattle.host_state.specs.State.{is_ready, envelope_of, with_taker, with_incoming}
-use Rattle.base_side.specs.Step.{Outcome, with_memory, stepped}
+use Rattle.base_side.specs.Step.{Outcome, with_memory}
 use Rattle.base_side.specs.Place.{start_of, with_high, with_size, with_at}
 use Rattle.host_state.specs.Take.{take_asks, take_high, take_header, take_text, taken, take_closed, take_finds, take_follows, take_step, take_begun}
 use Rattle.host_state.specs.Side.{text_or_closing, host_step, host_begun}

@@ -9,7 +9,7 @@ use lib.ListN.{length, get_or, set}
 use borrow.Author.Tests.{leb-true, le-leb}
 use Rattle.base_side.specs.Place.{start_of}
 use Rattle.base_side.specs.Step.{Next, Outcome, stepped, with_memory, denied}
-use Rattle.base_words.specs.Fields.{of, is_set, pi}
+use Rattle.base_words.specs.Fields.{is_set, pi}
 use Rattle.base_words.specs.Words.{go_word}
 use Rattle.base_texts.specs.Texts.{zeros, padded}
 use Rattle.base_memory.specs.Memory.{Memory, usable, lies, inside, with_word, cleared}

@@ -16,8 +16,8 @@ use Rattle.base_memory.specs.Memory.{Memory, with_word}
 use Rattle.base_memory.specs.OneWord.{found}
 use Rattle.base_memory.specs.declared.Word.TheVariants.{Value}
 use Rattle.base_memory.specs.declared.Touch.TheVariants.{Write}
-use Rattle.base_answers.specs.Told.{told, refusal, done}
-use Rattle.base_area.specs.Layout.{slots, envelope_at, indicator}
+use Rattle.base_answers.specs.Told.{told, done}
+use Rattle.base_area.specs.Layout.{slots, envelope_at}
 use Rattle.base_area.specs.declared.Area.{Area}
 use Rattle.base_area.specs.declared.Ring.{Ring}
 use Rattle.base_area.specs.declared.Ring.TheVariants.{Command, Response}

@@ -8,7 +8,7 @@ use mathlib.Core.Logic.{inl, inr}
 use native.Mathlib.Omega.{arith}
 use lib.ListN.{length, drop}
 use borrow.Author.Tests.{lt-ltb, le-ltb, le-leb}
-use Rattle.base_words.specs.Fields.{of, is_set, owner, flagged, connection, message_type, credits}
+use Rattle.base_words.specs.Fields.{of, is_set, owner, flagged, connection, message_type}
 use Rattle.base_words.specs.Words.{address_of, high_word}
 use Rattle.base_texts.specs.Texts.{words_of, with_text}
 use Rattle.base_memory.specs.Memory.{Memory, usable, with_word}
@@ -16,18 +16,17 @@ use Rattle.base_memory.specs.OneWord.{found, left}
 use Rattle.base_memory.specs.declared.Word.TheVariants.{Value}
 use Rattle.base_memory.specs.declared.Touch.{Touch}
 use Rattle.base_memory.specs.declared.Touch.TheVariants.{Read, Write}
-use Rattle.base_answers.specs.Told.{told, carried}
+use Rattle.base_answers.specs.Told.{carried}
 use Rattle.base_rules.specs.Rules.{fault_of}
 use Rattle.base_rules.specs.declared.Fault.TheVariants.{Sound}
 use Rattle.base_rules.proofs.Laws.{sound}
-use Rattle.base_area.specs.Layout.{slots, next_of, before_of, envelope_at, has_vector, indicator}
+use Rattle.base_area.specs.Layout.{slots, next_of, before_of, envelope_at, has_vector}
 use Rattle.base_area.specs.declared.Area.{Area}
 use Rattle.base_area.specs.declared.Ring.TheVariants.{Command, Response}
 use Rattle.fact_layout.specs.Facts.{rings, slots_apart, AreaFacts}
 use Rattle.fact_layout.proofs.Rings.{lt_or_ge, same_or_not, every_layout}
 use Rattle.fact_plain.specs.Plain.{Entry, Bounds}
 use Rattle.fact_plain.specs.Log.{fetches}
-use Rattle.port_state.specs.State as PortState
 use Rattle.base_side.specs.Step.{with_memory, onward}
 use Rattle.port_state.specs.State.{with_fetcher, with_incoming, with_counts}
 use Rattle.base_side.specs.Place.{with_high, with_envelope, with_size, with_at}

@@ -4,7 +4,6 @@ use mathlib.Core.Path.{◌≡◌, sym, ap, subst, ◌∙◌}
 use mathlib.Core.List.{List, [], ◌∷◌, ◌++◌}
 use native.Mathlib.Omega.{arith}
 use lib.ListN.{length, get_or, get_or-append}
-use Rattle.base_words.specs.Fields.{of}
 use Rattle.base_texts.specs.Texts.{words_of, padded}
 use Rattle.base_memory.specs.Memory.{Memory, usable, with_word}
 use Rattle.base_memory.proofs.Laws.{with_word_length}
@@ -14,7 +13,6 @@ use Rattle.base_area.specs.declared.Ring.TheVariants.{Command, Response}
 use Rattle.fact_layout.specs.Facts.{Apart, slots_apart, AreaFacts}
 use Rattle.fact_plain.specs.Plain.{Entry}
 use Rattle.port_state.specs.Post.{credits_of}
-use Rattle.base_side.specs.declared.Cursor.{Cursor}
 use Rattle.port_state.specs.declared.state.Stage.TheVariants as S
 use Rattle.port_state.specs.declared.state.Side.{Side as Fetcher, Side as Poster}
 use Rattle.port_state.specs.declared.state.Side.TheVariants.{Idle as NoFetch, At as Fetching, Tail as FetchTail, Idle as NoPost, At as Posting, Tail as PostTail}

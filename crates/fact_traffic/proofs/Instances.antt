@@ -12,7 +12,7 @@ use Rattle.base_rules.specs.Rules.{fault_of, carried_of, left_of}
 use Rattle.base_area.specs.Layout.{slots, base, slot_at, next_of, before_of, alone, indicator, envelope_at, has_vector, step_interrupt, area_lies, area_cleared, slot_count}
 use Rattle.base_area.specs.Setup.{fits, slot_set, slots_set, set_up}
 use Rattle.port_state.specs.Shake.{created, sa_of, first_heard, sa_written}
-use Rattle.port_state.specs.Tail.{tail_start, tail_asks, test_follows, mark_follows, tail_follows}
+use Rattle.port_state.specs.Tail.{tail_start, tail_asks, test_follows, mark_follows}
 use Rattle.port_state.specs.Fetch.{fetch_asks, fetch_high, fetch_low, fetch_header, fetch_text, fetched, fetch_release, fetch_follows, fetch_tailed, fetch_step, fetch_begun}
 use Rattle.port_state.specs.Side.{text_or_release, port_step, port_begun}
 use Rattle.port_state.specs.Post.{credits_of, post_asks, post_high, post_low, posted, post_release, post_follows, post_tailed, post_step, post_begun}

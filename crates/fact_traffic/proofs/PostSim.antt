@@ -19,7 +19,7 @@ use Rattle.base_memory.specs.declared.Touch.TheVariants.{Read, Write}
 use Rattle.base_answers.specs.Told.{told, done}
 use Rattle.base_rules.specs.Rules.{carried_of, left_of}
 use Rattle.base_rules.proofs.Laws.{carried_bounds, nothing_lost}
-use Rattle.base_area.specs.Layout.{slots, next_of, before_of, envelope_at, has_vector, indicator}
+use Rattle.base_area.specs.Layout.{slots, next_of, before_of, envelope_at, has_vector}
 use Rattle.base_area.specs.declared.Area.{Area}
 use Rattle.base_area.specs.declared.Ring.TheVariants.{Command, Response}
 use Rattle.fact_layout.specs.Facts.{rings', slots_apart, AreaFacts}
@@ -27,7 +27,6 @@ use Rattle.fact_layout.proofs.Rings.{lt_or_ge, same_or_not, every_layout}
 use Rattle.fact_plain.specs.Plain.{Entry, entry, Bounds}
 use Rattle.fact_plain.specs.Log.{posts, does, noted, Allowed, Log, Ran, credits_in}
 use Rattle.fact_plain.proofs.InOrder.{credits_more}
-use Rattle.port_state.specs.State as PortState
 use Rattle.base_side.specs.Step.{with_memory, onward}
 use Rattle.port_state.specs.State.{serving_of, with_poster, with_counts}
 use Rattle.base_side.specs.Place.{with_high, with_envelope, with_at}

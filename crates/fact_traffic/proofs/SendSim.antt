@@ -7,7 +7,7 @@ use mathlib.Core.Logic.{inl, inr}
 use native.Mathlib.Omega.{arith}
 use lib.ListN.{length, get_or, drop, length-append}
 use borrow.Author.Tests.{lt-ltb, le-ltb, eq-eqb, ne_eqb}
-use Rattle.base_words.specs.Fields.{of, is_set, owner}
+use Rattle.base_words.specs.Fields.{is_set, owner}
 use Rattle.base_words.specs.Words.{low_word, with_address, high_word}
 use Rattle.base_texts.specs.Texts.{words_of, word_of, padded}
 use Rattle.base_memory.specs.Memory.{Memory, with_word}

@@ -6,11 +6,10 @@ use mathlib.Core.Bool.{Bool, true, false, cond}
 use mathlib.Core.Logic.{◌⊎◌, inl, inr}
 use native.Mathlib.Omega.{arith}
 use lib.ListN.{length}
-use Rattle.base_words.specs.Fields.{of}
 use Rattle.base_words.specs.Words.{low_word, with_address, high_word}
-use Rattle.base_memory.specs.Memory.{Memory, usable, lies, inside, word_in, with_word, cleared}
+use Rattle.base_memory.specs.Memory.{Memory, usable, inside, word_in, with_word, cleared}
 use Rattle.base_memory.proofs.Laws.{usable_le, inside_yes, with_word_length, with_word_low, with_word_high, word_in_other, lies_yes, cleared_length}
-use Rattle.base_area.specs.Layout.{slots, slot_count, base, rings_end}
+use Rattle.base_area.specs.Layout.{slot_count, base, rings_end}
 use Rattle.base_area.specs.Setup.{pool_end, to_port, with_length, slot_set, slots_set, set_up}
 use Rattle.base_area.specs.declared.Area.{Area}
 use Rattle.fact_layout.specs.Facts.{AreaFacts}

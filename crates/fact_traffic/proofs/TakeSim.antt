@@ -15,7 +15,7 @@ use Rattle.base_memory.specs.OneWord.{found, left}
 use Rattle.base_memory.specs.declared.Word.TheVariants.{Value}
 use Rattle.base_memory.specs.declared.Touch.{Touch}
 use Rattle.base_memory.specs.declared.Touch.TheVariants.{Read, Write}
-use Rattle.base_answers.specs.Told.{told, carried}
+use Rattle.base_answers.specs.Told.{carried}
 use Rattle.base_rules.specs.Rules.{fault_of}
 use Rattle.base_rules.specs.declared.Fault.TheVariants.{Sound}
 use Rattle.base_rules.proofs.Laws.{sound}

@@ -10,7 +10,6 @@ use Rattle.base_memory.specs.declared.Touch.TheVariants.{Write}
 use Rattle.base_area.specs.declared.Area.{Area}
 use Rattle.port_state.specs.State as PortState
 use Rattle.port_state.specs.Fetch.{fetch_asks, fetch_follows, fetch_step}
-use Rattle.port_state.specs.Side.{port_step}
 use Rattle.port_state.specs.Post.{post_step}
 use Rattle.base_side.specs.declared.Cursor.{Cursor}
 use Rattle.port_state.specs.declared.state.Serving.{Serving}
@@ -22,7 +21,6 @@ use Rattle.port_state.specs.declared.state.Side.TheVariants.{Idle as NoFetch, At
 use Rattle.port_state.specs.declared.state.Port.{Port}
 use Rattle.host_state.specs.State as HostState
 use Rattle.host_state.specs.Send.{send_asks, send_follows, send_step}
-use Rattle.host_state.specs.Side.{host_step}
 use Rattle.host_state.specs.declared.state.Stage.{Stage as SendStage}
 use Rattle.host_state.specs.declared.state.Stage.TheVariants as H
 use Rattle.host_state.specs.declared.state.Side.{Side as Sender}

@@ -5,9 +5,7 @@ use Rattle.base_side.specs.Step.{Outcome}
 use Rattle.base_words.specs.Words.{address_bits}
 use Rattle.base_memory.specs.Memory.{Memory}
 use Rattle.fact_plain.specs.Plain.{Bounds, start}
-use Rattle.port_state.specs.State as PortState
 use Rattle.port_state.specs.declared.state.Port.{Port}
-use Rattle.host_state.specs.State as HostState
 use Rattle.host_state.specs.declared.state.Host.{Host}
 use Rattle.fact_traffic.specs.World.{Ev, begin_send, step_send, begin_take, step_take, begin_fetch, step_fetch, begin_post, step_post, Halves, ours, act_by}
 use Rattle.fact_traffic.specs.Play.{idle, game}

@@ -1,6 +1,5 @@
 -- Demand 3, stated: where a run starts, and what is promised of it.
 use Rattle.std.specs.Prelude.{ℕ, ◌+◌, ◌%◌, ◌≤◌, ◌<◌, ◌≡◌, Bool, true, false, not, ◌||◌, eqb, ltb, List, [], ◌∷◌, length, get_or}
-use Rattle.base_side.specs.Step.{stepped}
 use Rattle.base_words.specs.Words.{address_bits}
 use Rattle.base_texts.specs.Texts.{padded}
 use Rattle.base_answers.specs.Told.{Closing, going, done, refused, fatal, told}

@@ -5,17 +5,13 @@ use Rattle.base_side.specs.Step.{Next, Outcome}
 use Rattle.base_memory.specs.Memory.{Memory}
 use Rattle.base_answers.specs.Told.{Told, Closing}
 use Rattle.base_area.specs.declared.Ring.{Ring}
-use Rattle.port_state.specs.State as PortState
 use Rattle.port_state.specs.Shake.{sa_of, sa_written}
 use Rattle.port_state.specs.Fetch.{fetch_begun, fetch_step}
-use Rattle.port_state.specs.Side.{port_begun, port_step}
 use Rattle.port_state.specs.Post.{post_begun, post_step}
 use Rattle.port_state.specs.declared.state.Port.{Port}
-use Rattle.host_state.specs.State as HostState
 use Rattle.host_state.specs.Shake.{Asks, Turn, sa_seen, time_up}
 use Rattle.host_state.specs.Setup.{indicator_cleared}
 use Rattle.host_state.specs.Send.{send_begun, send_step}
-use Rattle.host_state.specs.Side.{host_begun, host_step}
 use Rattle.host_state.specs.Take.{take_begun, take_step}
 use Rattle.host_state.specs.declared.state.Host.{Host}
 

@@ -1,13 +1,13 @@
 -- The port: what has come of a text is zero from its length on, and before its length is known all zero. Assumes nothing.
 use Prim.Native.Nat.{ℕ, ◌+◌, ◌*◌, ◌-◌, ◌<◌}
-use mathlib.Core.Path.{◌≡◌, refl, subst, ◌∙◌}
+use mathlib.Core.Path.{◌≡◌, refl, ◌∙◌}
 use mathlib.Core.Bool.{Bool, true, false, cond, ◌&&◌}
 use mathlib.Core.List.{List, [], ◌∷◌}
 use lib.Dec.{leb, eqb}
 use lib.ListN.{length}
 use Rattle.base_words.specs.Fields.{of, is_set, owner, flagged, connection, message_type, one, wr, go as goBit}
 use Rattle.base_words.specs.Words.{address_of}
-use Rattle.base_texts.specs.Texts.{words_of, zeros, with_text, padded}
+use Rattle.base_texts.specs.Texts.{words_of, with_text, padded}
 use Rattle.base_texts.proofs.Laws.{zeros_length}
 use Rattle.base_memory.specs.Memory.{Memory, usable}
 use Rattle.base_memory.specs.OneWord.{found}

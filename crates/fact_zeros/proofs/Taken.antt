@@ -6,7 +6,7 @@ use mathlib.Core.List.{List, [], ◌∷◌}
 use lib.Dec.{leb, eqb}
 use lib.ListN.{length}
 use Rattle.base_words.specs.Fields.{of, is_set, owner, connection, message_type, credits, er, step_bits}
-use Rattle.base_texts.specs.Texts.{zeros, with_text, padded}
+use Rattle.base_texts.specs.Texts.{with_text, padded}
 use Rattle.base_texts.proofs.Laws.{zeros_length}
 use Rattle.base_memory.specs.Memory.{Memory, usable}
 use Rattle.base_memory.specs.OneWord.{found}
@@ -32,7 +32,6 @@ use Rattle.host_state.specs.Take.{take_asks, take_high, take_sound, take_header,
 use Rattle.host_state.specs.Calls.{Call, begins, sees, times_out, sets_up, clears, begins_send, steps_send, begins_take, steps_take, after, played}
 use Rattle.host_state.specs.declared.state.Asked.{Asked}
 use Rattle.host_state.specs.declared.state.Beginning.{Beginning}
-use Rattle.host_state.specs.declared.state.Step.{Step}
 use Rattle.host_state.specs.declared.state.Step.TheVariants.{One}
 use Rattle.host_state.specs.declared.state.Shake.{Shake}
 use Rattle.host_state.specs.declared.state.Shake.TheVariants.{Dead, Expect, Finished}

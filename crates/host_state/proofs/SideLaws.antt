@@ -2,8 +2,7 @@
 use Prim.Native.Nat.{ℕ}
 use mathlib.Core.Path.{◌≡◌, refl, sym, ap, ◌∙◌}
 use mathlib.Core.Bool.{Bool, true, false, not}
-use lib.ListN.{length}
-use Rattle.base_memory.specs.Memory.{Memory, usable}
+use Rattle.base_memory.specs.Memory.{Memory}
 use Rattle.base_memory.specs.OneWord.{found, left}
 use Rattle.base_memory.specs.declared.Word.{Word}
 use Rattle.base_memory.specs.declared.Touch.{Touch}

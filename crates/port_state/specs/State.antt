@@ -3,7 +3,6 @@ use Rattle.std.specs.Prelude.{ℕ, ◌-◌, false, List}
 use Rattle.base_texts.specs.Texts.{zeros}
 use Rattle.base_answers.specs.Told.{told, told_of, fatal, fatal_number}
 use Rattle.base_answers.specs.declared.Fatal.{Fatal}
-use Rattle.base_area.specs.declared.Area.{Area}
 use Rattle.base_area.specs.declared.Ring.{Ring}
 use Rattle.base_area.specs.declared.Ring.TheVariants.{Command, Response}
 use Rattle.base_side.specs.Step.{Next}

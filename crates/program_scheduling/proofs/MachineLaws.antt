@@ -1,7 +1,7 @@
 -- What a step counts and keeps, and that each side's step, built from the half's own beginning and step, is the turn defined.
 -- Assumes nothing.
 use Rattle.std.proofs.Common.{◌≡◌, ℕ, ◌+◌, ◌/◌, ◌%◌, ◌^◌, Bool, true, false, ltb, List, [], ◌∷◌, get_or, set, sym, refl, ap, ◌∙◌}
-use Rattle.base_side.specs.Step.{Next, Outcome, with_memory}
+use Rattle.base_side.specs.Step.{Next, with_memory}
 use Rattle.base_words.specs.Words.{address_bits}
 use Rattle.base_memory.specs.Memory.{Memory}
 use Rattle.base_texts.specs.Texts.{word_of}
@@ -10,13 +10,11 @@ use Rattle.base_answers.specs.declared.Said.{Said}
 use Rattle.base_answers.specs.declared.Reply.{Reply}
 use Rattle.port_state.specs.State as PortState
 use Rattle.port_state.specs.Fetch.{fetch_begun, fetch_step}
-use Rattle.port_state.specs.Side.{port_begun, port_step}
 use Rattle.port_state.specs.Post.{post_begun, post_step}
 use Rattle.port_state.specs.declared.state.Port.{Port}
 use Rattle.port_state.specs.declared.state.Stepped as PortStepped
 use Rattle.host_state.specs.State as HostState
 use Rattle.host_state.specs.Send.{send_begun, send_step}
-use Rattle.host_state.specs.Side.{host_begun, host_step}
 use Rattle.host_state.specs.Take.{take_begun, take_step}
 use Rattle.host_state.specs.declared.state.Host.{Host}
 use Rattle.host_state.specs.declared.state.Stepped as HostStepped

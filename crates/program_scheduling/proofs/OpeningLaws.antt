@@ -19,7 +19,7 @@ use Rattle.host_state.specs.declared.state.Shaken.{Shaken}
 use Rattle.host_state.specs.declared.state.Stepped as HostStepped
 use Rattle.fact_meeting.specs.Meeting.{Pair, pair, obeyed, opened, exchange, exchanges}
 use Rattle.program_scheduling.specs.Machine.{Stand}
-use Rattle.program_scheduling.specs.Opening.{asked, unmet, nothing, settled_by, settled, started_by}
+use Rattle.program_scheduling.specs.Opening.{asked, unmet, settled_by, settled, started_by}
 use Rattle.program_scheduling.specs.declared.opening.Halves.{Halves}
 
 module _ (h : Host) (p : Port) (m : Memory) (a : Act) where

@@ -5,14 +5,10 @@ use Rattle.base_words.specs.Words.{address_bits}
 use Rattle.base_memory.specs.Memory.{Memory}
 use Rattle.base_texts.specs.Texts.{word_of}
 use Rattle.base_answers.specs.Told.{Told, Closing, going, done, refused, fatal}
-use Rattle.port_state.specs.State as PortState
 use Rattle.port_state.specs.Fetch.{fetch_begun, fetch_step}
-use Rattle.port_state.specs.Side.{port_begun, port_step}
 use Rattle.port_state.specs.Post.{post_begun, post_step}
 use Rattle.port_state.specs.declared.state.Port.{Port}
-use Rattle.host_state.specs.State as HostState
 use Rattle.host_state.specs.Send.{send_begun, send_step}
-use Rattle.host_state.specs.Side.{host_begun, host_step}
 use Rattle.host_state.specs.Take.{take_begun, take_step}
 use Rattle.host_state.specs.declared.state.Asked.{Asked}
 use Rattle.host_state.specs.declared.state.Host.{Host}

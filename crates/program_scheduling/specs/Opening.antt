@@ -5,7 +5,6 @@ use Rattle.base_words.specs.Words.{address_bits}
 use Rattle.base_memory.specs.Memory.{Memory}
 use Rattle.port_state.specs.Shake.{created}
 use Rattle.port_state.specs.declared.state.Made.{Made}
-use Rattle.host_state.specs.State as HostState
 use Rattle.host_state.specs.Shake.{new_host}
 use Rattle.host_state.specs.Setup.{set_up_by}
 use Rattle.host_state.specs.declared.state.Beginning.{Beginning}

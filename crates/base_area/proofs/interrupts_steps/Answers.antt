@@ -7,4 +7,3 @@ returns-then-wants_interrupts c = interrupts_is _ (sym c.if-wants_interrupts.tru
 
 pub returns-else-wants_interrupts : goal.returns-else-wants_interrupts
 returns-else-wants_interrupts c = interrupts_is _ (sym c.if-wants_interrupts.false ∙ c.wants_interrupts.ensures) refl
-

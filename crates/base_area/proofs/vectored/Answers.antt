@@ -3,4 +3,3 @@ use Rattle.base_area.proofs.vectored.Goals as goal
 
 pub returns : goal.returns
 returns c = vectored_is _ c.vector_of.ensures
-

@@ -9,4 +9,3 @@ invariant-loop-i l = (l.i ≤ length l.initial.part) × ((length l.part ≡ leng
 
 abbrev pub decreases-loop-i : goal.decreases-loop-i
 decreases-loop-i l = length l.initial.part - l.i
-

@@ -18,4 +18,3 @@ bounds-mem-a-2 c = omega (arith, usable_le 18 (length c.args.mem.now))
 
 pub returns : goal.returns
 returns c = word_at_yes _ _ _ (inside_yes _ _ _ _ c.usable_of-end.ensures (search rules))
-

@@ -6,4 +6,3 @@ returns-then-even-le-END c = usable_short _ c.if-even-le-END.true
 
 pub returns-else-even-le-END : goal.returns-else-even-le-END
 returns-else-even-le-END c = usable_long _ c.if-even-le-END.false
-

@@ -18,4 +18,3 @@ bounds-mem-a-2 c = simp length-set (omega (arith, usable_le 18 (length c.args.me
 
 pub returns : goal.returns
 returns c = (inside_yes _ _ _ _ c.usable_of-end.ensures (search rules), with_word_yes _ _ _ _ (inside_yes _ _ _ _ c.usable_of-end.ensures (search rules)))
-

@@ -6,4 +6,3 @@ returns-then-owed-lt-MOST_CARRIED c = carried_few _ c.if-owed-lt-MOST_CARRIED.tr
 
 pub returns-else-owed-lt-MOST_CARRIED : goal.returns-else-owed-lt-MOST_CARRIED
 returns-else-owed-lt-MOST_CARRIED c = carried_most _ c.if-owed-lt-MOST_CARRIED.false
-

@@ -13,4 +13,3 @@ returns-in_default-connection c = other_connection _ _ _ c.in-0.is c.in_default-
 
 pub returns-in_default : goal.returns-in_default
 returns-in_default c = other_type _ _ _ c.in_default.in_default-own.rest.1
-

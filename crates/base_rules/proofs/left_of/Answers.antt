@@ -7,4 +7,3 @@ returns-then-owed-ge-MOST_CARRIED c = left_most _ c.if-owed-ge-MOST_CARRIED.true
 
 pub returns-else-owed-ge-MOST_CARRIED : goal.returns-else-owed-ge-MOST_CARRIED
 returns-else-owed-ge-MOST_CARRIED c = left_few _ (omega (arith, c.if-owed-ge-MOST_CARRIED.false))
-

@@ -5,4 +5,3 @@ use Rattle.base_texts.proofs.blank.Goals as goal
 pub returns : goal.returns
 unfolding zeros
 returns c = refl
-

@@ -6,4 +6,3 @@ returns-then-i-lt-LONGEST c = byte_in _ _ c.if-i-lt-LONGEST.true
 
 pub returns-else-i-lt-LONGEST : goal.returns-else-i-lt-LONGEST
 returns-else-i-lt-LONGEST c = byte_past _ _ c.if-i-lt-LONGEST.false
-

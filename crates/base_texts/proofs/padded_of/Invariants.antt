@@ -10,4 +10,3 @@ invariant-loop-i l = (l.i ≤ length l.s) × (l.room ≡ paste zeros 0 l.s l.i)
 
 abbrev pub decreases-loop-i : goal.decreases-loop-i
 decreases-loop-i l = length l.s - l.i
-

@@ -6,4 +6,3 @@ returns-then-i-lt-LONGEST c = put_in _ _ _ c.if-i-lt-LONGEST.true
 
 pub returns-else-i-lt-LONGEST : goal.returns-else-i-lt-LONGEST
 returns-else-i-lt-LONGEST c = put_past _ _ _ c.if-i-lt-LONGEST.false
-

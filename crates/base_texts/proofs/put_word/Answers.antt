@@ -7,4 +7,3 @@ returns-then-i-size c = with_two _ _ _ _ _ _ (search rules) c.put_byte.ensures c
 
 pub returns-else-i-size : goal.returns-else-i-size
 returns-else-i-size c = with_one _ _ _ _ _ (search rules) c.put_byte.ensures
-

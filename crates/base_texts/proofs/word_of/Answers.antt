@@ -7,4 +7,3 @@ returns-then-i-size c = word_two _ _ _ _ _ (search rules) c.byte_at-low.ensures 
 
 pub returns-else-i-size : goal.returns-else-i-size
 returns-else-i-size c = word_one _ _ _ _ (search rules) c.byte_at-low.ensures
-

@@ -1,5 +1,3 @@
-use Rattle.fact_credit.proofs.every_ledger.Reads as reads
-use Rattle.fact_credit.proofs.every_ledger.Lts as lts
 use mathlib.Core.Path.{refl}
 use Rattle.fact_credit.proofs.Ledgers.{every_ledger, happens}
 use Rattle.fact_credit.proofs.every_ledger.Goals as goal
@@ -7,4 +5,3 @@ use Rattle.fact_credit.proofs.every_ledger.Goals as goal
 -- src/lib.rt:7:1
 pub returns : goal.returns
 returns c = (refl, every_ledger, happens)
-

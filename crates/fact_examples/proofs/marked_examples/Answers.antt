@@ -14,9 +14,10 @@ use Rattle.fact_examples.proofs.marked_examples.Goals as goal
 all-rows : Claim
 unfolding table zeros usable lies cleared carried_of left_of slots base slot_at next_of has_vector step_interrupt area_lies area_cleared created sa_of first_heard sa_written credits_of posted accepts begun expecting sa_seen
 all-rows = refl
+
 counted : length table ≡ 12
 unfolding table
 counted = refl
+
 pub returns : goal.returns
 returns c = (sym counted, all-rows)
-

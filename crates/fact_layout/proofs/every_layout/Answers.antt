@@ -5,4 +5,3 @@ use Rattle.fact_layout.proofs.every_layout.Goals as goal
 -- The facts are `every_layout`. Assumes nothing.
 pub returns : goal.returns
 returns c = (refl, every_layout)
-

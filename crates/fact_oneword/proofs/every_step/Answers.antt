@@ -5,4 +5,3 @@ use Rattle.fact_oneword.proofs.every_step.Goals as goal
 -- The fact is `every_step`. Assumes nothing.
 pub returns : goal.returns
 returns c = (refl, every_step)
-

@@ -5,4 +5,3 @@ use Rattle.fact_plain.proofs.every_run_in_order.Goals as goal
 -- The fact is `every_run_in_order`. Assumes nothing.
 pub returns : goal.returns
 returns c = (refl, every_run_in_order)
-

@@ -12,6 +12,6 @@ every sends = send_ends_lem
 every takes = take_ends
 every fetches = fetch_ends_lem
 every posts = post_ends
+
 pub returns : goal.returns
 returns c = (refl, every)
-

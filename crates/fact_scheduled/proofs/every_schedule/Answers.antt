@@ -13,6 +13,6 @@ two-calls Send x = refl
 two-calls Take x = refl
 two-calls Fetch x = refl
 two-calls Answer x = refl
+
 pub returns : goal.returns
 returns c = (two-calls, every_schedule)
-

@@ -5,4 +5,3 @@ use Rattle.fact_traffic.proofs.errors_shut_out.Goals as goal
 -- The theorem is `shut_out`. Assumes nothing.
 pub returns : goal.returns
 returns c = (refl, shut_out)
-

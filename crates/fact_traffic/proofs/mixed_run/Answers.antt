@@ -5,4 +5,3 @@ use Rattle.fact_traffic.proofs.mixed_run.Goals as goal
 -- The fact is `mixed_run`. Assumes nothing.
 pub returns : goal.returns
 returns c = (refl, mixed_run)
-

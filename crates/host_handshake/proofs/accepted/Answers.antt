@@ -15,4 +15,3 @@ returns-then-b-ne0 c = accepts_odd _ _ c.if-b-gt7.false c.if-b-gt7-2.false c.if-
 
 pub returns : goal.returns
 returns c = accepts_rest _ _ c.if-b-gt7.false c.if-b-gt7-2.false c.if-b-gt127.false c.if-b-ne0.false
-

@@ -7,4 +7,3 @@ returns-then-accepted c = asked_by refl c.asks.ensures ∙ begun_yes _ _ _ (sym 
 
 pub returns : goal.returns
 returns c = asked_by refl c.asks-2.ensures ∙ begun_no _ _ _ (sym c.if-accepted.false ∙ c.accepted.ensures)
-

@@ -18,6 +18,6 @@ returns-then-echo_is_right c = c.answers.ensures ∙ expects_step _ _ _ _ (sym c
 pub returns : goal.returns
 returns c =
     elim c.if-bits-bit_of.branch [
-      then-bits-bit_of+else-echo_is_right w ↦ c.stumbles-2.ensures ∙ expects_wrong _ _ _ _ (sym c.if-error.false ∙ c.error.ensures) c.steps-bits.ensures c.if-bits-eq0.false c.old_of.ensures c.if-bits-old_of.false c.bit_of.ensures w.if-bits-bit_of.true (sym w.if-echo_is_right.false ∙ w.echo_is_right.ensures)
-    | else-bits-bit_of w ↦ c.stumbles-2.ensures ∙ expects_other _ _ _ _ (sym c.if-error.false ∙ c.error.ensures) c.steps-bits.ensures c.if-bits-eq0.false c.old_of.ensures c.if-bits-old_of.false c.bit_of.ensures w.if-bits-bit_of.false
+      | then-bits-bit_of+else-echo_is_right w ↦ c.stumbles-2.ensures ∙ expects_wrong _ _ _ _ (sym c.if-error.false ∙ c.error.ensures) c.steps-bits.ensures c.if-bits-eq0.false c.old_of.ensures c.if-bits-old_of.false c.bit_of.ensures w.if-bits-bit_of.true (sym w.if-echo_is_right.false ∙ w.echo_is_right.ensures)
+      | else-bits-bit_of w ↦ c.stumbles-2.ensures ∙ expects_other _ _ _ _ (sym c.if-error.false ∙ c.error.ensures) c.steps-bits.ensures c.if-bits-eq0.false c.old_of.ensures c.if-bits-old_of.false c.bit_of.ensures w.if-bits-bit_of.false
     ]

@@ -13,4 +13,3 @@ returns-then-error c = asked_by refl c.asks-then-error.ensures ∙ saw_error _ _
 
 pub returns-else-error : goal.returns-else-error
 returns-else-error c = asked_by refl c.asks-else-error.ensures ∙ saw_none _ _ c.in-Finished.is (sym c.if-error.false ∙ c.error.ensures)
-

@@ -10,4 +10,3 @@ returns-in-Expect c = c.stumbles.ensures ∙ late_expecting _ c.in-Expect.is
 
 pub returns-in-Finished : goal.returns-in-Finished
 returns-in-Finished c = asked_by refl c.asks-in-Finished.ensures ∙ late_none _ c.in-Finished.is
-

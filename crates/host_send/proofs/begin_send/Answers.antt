@@ -15,4 +15,3 @@ returns-then-not-is_idle c = unfold send_begun in begun_busy _ _ _ c.is_ready.en
 
 pub returns : goal.returns
 returns c = unfold send_begun in begun_idle _ _ _ c.is_ready.ensures (not_from_true _ c.if-not-is_ready.false) c.is_idle.ensures (not_from_true _ c.if-not-is_idle.false) c.send_begins.ensures
-

@@ -28,4 +28,3 @@ returns-in-Closing c = by₂ (send_asks _ _) _ c.in-Closing.is (unfold send_asks
 
 pub returns-in-Release : goal.returns-in-Release
 returns-in-Release c = by₂ (send_asks _ _) _ c.in-Release.is (unfold send_asks in ap₂ (λ (x y : ℕ). Write (x + 2) y) c.slot_at-slot.ensures.0 (c.high_word.ensures ∙ ap (high_word true c.args.host.asked.flag) c.with_address-rest.ensures))
-

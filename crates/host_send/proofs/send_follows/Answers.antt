@@ -7,4 +7,3 @@ returns-in-Outside c = by (send_follows _ _ _) c.in-Outside.is (unfold send_foll
 
 pub returns-in-Value : goal.returns-in-Value
 returns-in-Value c = by (send_follows _ _ _) c.in-Value.is (unfold send_follows in c.send_finds.ensures)
-

@@ -17,4 +17,3 @@ returns-then-port_owns c = unfold send_high in no _ _ (ne_eqb _ 0 c.if-host-eq0.
 
 pub returns : goal.returns
 returns c = unfold send_high in no _ _ (ne_eqb _ 0 c.if-host-eq0.false) (no _ _ (sym c.port_owns.ensures ∙ c.if-port_owns.false) (c.goes.ensures ∙ ap (λ (d : Cursor). onward (with_sender c.args.host (At Length d))) c.with_high.ensures))
-

@@ -11,4 +11,3 @@ returns-in-Idle c = unfold send_step in step_idle _ _ _ _ _ _ _ c.is_ready.ensur
 
 pub returns-in-At : goal.returns-in-At
 returns-in-At c = unfold send_step in step_on _ _ _ _ _ _ _ c.is_ready.ensures (not_from_true _ c.if-not-is_ready.false) c.in-At.is c.send_asks.ensures c.touched-w.ensures c.send_follows.ensures
-

@@ -11,4 +11,3 @@ returns-then-not-finished c = clear_early _ _ _ _ c.finished.ensures (not_from_f
 
 pub returns : goal.returns
 returns c = clear_done _ _ _ _ c.finished.ensures (not_from_true _ c.if-not-finished.false) c.indicator_write.ensures c.touched-w.ensures c.clear_follows.ensures
-

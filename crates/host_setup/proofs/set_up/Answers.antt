@@ -20,4 +20,3 @@ returns-then-not-fits_in c = set_up_no _ _ _ _ c.finished.ensures (not_from_true
 
 pub returns : goal.returns
 returns c = set_up_yes _ _ _ _ c.finished.ensures (not_from_true _ c.if-not-finished.false) c.is_idle.ensures (not_from_true _ c.if-not-is_idle.false) c.is_idle-2.ensures (not_from_true _ c.if-not-is_idle-2.false) c.usable_of.ensures c.fits_in.ensures (not_from_true _ c.if-not-fits_in.false) c.set_up.ensures (replies_is Done c.made_ready.ensures c.replies-2.ensures)
-

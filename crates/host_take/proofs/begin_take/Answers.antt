@@ -24,4 +24,3 @@ returns-then-not-is_idle c = unfold take_begun in begun_busy _ _ _ c.is_ready.en
 
 pub returns : goal.returns
 returns c = unfold take_begun in begun_idle _ _ _ c.is_ready.ensures (not_from_true _ c.if-not-is_ready.false) c.is_idle.ensures (not_from_true _ c.if-not-is_idle.false) (c.goes.ensures ∙ ap₂ (λ (h : Host) (d : Cursor). onward (with_taker h (At High d))) (c.with_incoming-host.ensures ∙ ap (λ (t : List ℕ). with_incoming c.args.host t 0) c.blank.ensures) (c.start-c.ensures ∙ ap (λ (k : ℕ). start_of c.args.host.counts.take k 0) c.envelope_of.ensures))
-

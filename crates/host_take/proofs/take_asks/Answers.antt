@@ -22,4 +22,3 @@ returns-in-Closing c = by₂ (take_asks _ _) _ c.in-Closing.is (unfold take_asks
 
 pub returns-in-Release : goal.returns-in-Release
 returns-in-Release c = by₂ (take_asks _ _) _ c.in-Release.is (unfold take_asks in ap₂ (λ (x y : ℕ). Write (x + 2) y) c.slot_at-slot.ensures.0 c.high_word.ensures)
-

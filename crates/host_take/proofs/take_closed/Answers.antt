@@ -8,4 +8,3 @@ use Rattle.host_take.proofs.take_closed.Goals as goal
 
 pub returns : goal.returns
 returns c = unfold take_closed in closed_is c.full-reply.ensures (c.with_taker-host.ensures ∙ ap (λ (h : Host). with_taker h Idle) c.taken_one.ensures)
-

@@ -7,4 +7,3 @@ returns-in-Outside c = by (take_follows _ _ _) c.in-Outside.is (unfold take_foll
 
 pub returns-in-Value : goal.returns-in-Value
 returns-in-Value c = by (take_follows _ _ _) c.in-Value.is (unfold take_follows in c.take_finds.ensures)
-

@@ -22,4 +22,3 @@ returns-then-host-credits-le-MOST_ACCOUNT c = by (take_sound c.args.host c.args.
 pub returns-else-host-credits-le-MOST_ACCOUNT : goal.returns-else-host-credits-le-MOST_ACCOUNT
 unfolding take_header
 returns-else-host-credits-le-MOST_ACCOUNT c = by (take_sound c.args.host c.args.c (of credits c.args.v)) (fault_is _ c.type_of.ensures c.connection_of.ensures c.fault_of-fault.ensures c.in-Sound.is) (no _ _ (lt-leb _ 255 (subst (λ (k : ℕ). 255 < c.args.host.counts.account + k) c.credits_of-credits.ensures c.if-host-credits-le-MOST_ACCOUNT.false)) c.refused-else-host-credits-le-MOST_ACCOUNT.ensures)
-

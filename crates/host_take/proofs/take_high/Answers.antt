@@ -13,4 +13,3 @@ returns-then-port_owns c = unfold take_high in yes _ _ (sym c.port_owns.ensures 
 
 pub returns-else-port_owns : goal.returns-else-port_owns
 returns-else-port_owns c = unfold take_high in no _ _ (sym c.port_owns.ensures ∙ c.if-port_owns.false) (c.goes.ensures ∙ ap (λ (d : Cursor). onward (with_taker c.args.host (At Length d))) c.with_high.ensures)
-

@@ -9,4 +9,3 @@ use Rattle.host_take.proofs.take_text.Goals as goal
 
 pub returns : goal.returns
 returns c = unfold take_text in c.goes.ensures ∙ ap₂ (λ (x : List ℕ) (y : Side). onward (with_taker (with_incoming c.args.host x c.args.host.credits) y)) c.put_word.ensures c.text_or_closing-side.ensures
-

@@ -21,4 +21,3 @@ returns-then-not-is_idle c = unfold fetch_begun in begun_busy _ _ _ c.serving_of
 
 pub returns : goal.returns
 returns c = unfold fetch_begun in begun_idle _ _ _ c.serving_of-serving.ensures c.in-On.is c.is_idle.ensures (not_from_true _ c.if-not-is_idle.false) (c.goes.ensures ∙ ap₂ (λ (q : Port) (d : Cursor). onward (with_fetcher q (At High d))) (c.with_incoming-port.ensures ∙ ap (with_incoming c.args.port) c.blank.ensures) c.start-c.ensures)
-

@@ -22,4 +22,3 @@ returns-in-Text c = by₂ (fetch_asks _ _) _ c.in-Text.is (unfold fetch_asks in 
 
 pub returns-in-Release : goal.returns-in-Release
 returns-in-Release c = by₂ (fetch_asks _ _) _ c.in-Release.is (unfold fetch_asks in ap₂ (λ (x y : ℕ). Write (x + 2) y) c.slot_at-slot.ensures.0 c.high_word.ensures)
-

@@ -9,4 +9,3 @@ returns-in-Outside c = by (fetch_follows _ _ _ _ _ _) c.in-Outside.is (unfold fe
 
 pub returns-in-Value : goal.returns-in-Value
 returns-in-Value c = by (fetch_follows _ _ _ _ _ _) c.in-Value.is (unfold fetch_follows in c.fetch_finds.ensures)
-

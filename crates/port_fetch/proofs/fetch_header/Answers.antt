@@ -25,4 +25,3 @@ returns-then-used-port c = by (header_sound c.args.port c.args.end c.args.c) (fa
 pub returns-else-used-port : goal.returns-else-used-port
 unfolding fetch_header
 returns-else-used-port c = by (header_sound c.args.port c.args.end c.args.c) (fault_is _ c.type_of.ensures c.connection_of.ensures c.fault_of-fault.ensures c.in-Sound.is) (yes _ _ (text_yes (c.args.c.envelope + 4) c.words_of.ensures _ c.if-end-text_end.false) (no _ _ (le-ltb _ _ c.if-used-port.false) c.failed-else-used-port.ensures))
-

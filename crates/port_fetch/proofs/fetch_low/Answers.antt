@@ -19,4 +19,3 @@ returns-then-end-text c = unfold fetch_low in no _ _ (envelope_past _ c.address-
 
 pub returns : goal.returns
 returns c = unfold fetch_low in yes _ _ (envelope_in _ c.address-text.ensures c.if-text-lt4.false _ _ c.address-text.ensures c.if-end-text.false) (c.goes.ensures ∙ ap (λ (d : Cursor). onward (with_fetcher c.args.port (At Length d))) (c.with_envelope-c.ensures ∙ ap (λ (t : ℕ). with_envelope c.args.c (t - 4)) c.address-text.ensures))
-

@@ -14,4 +14,3 @@ returns-then-has_flag c = unfold fetch_release in yes _ _ (sym c.has_flag.ensure
 
 pub returns-else-has_flag : goal.returns-else-has_flag
 returns-else-has_flag c = unfold fetch_release in no _ _ (sym c.has_flag.ensures ∙ c.if-has_flag.false) (c.fetch_closed.ensures ∙ ap (λ (q : Port). fetch_closed q c.args.c false) c.fetched_one-port.ensures)
-

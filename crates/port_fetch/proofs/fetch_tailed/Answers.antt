@@ -10,4 +10,3 @@ returns-in-Closed c = by (fetch_tailed _ _) c.in-Closed.is (unfold fetch_tailed 
 
 pub returns-in-Broken : goal.returns-in-Broken
 returns-in-Broken c = by (fetch_tailed _ _) c.in-Broken.is (unfold fetch_tailed in c.failed.ensures)
-

@@ -9,4 +9,3 @@ use Rattle.port_fetch.proofs.fetch_text.Goals as goal
 
 pub returns : goal.returns
 returns c = unfold fetch_text in c.goes.ensures ∙ ap₂ (λ (x : List ℕ) (y : Side). onward (with_fetcher (with_incoming c.args.port x) y)) c.put_word.ensures c.text_or_release-side.ensures
-

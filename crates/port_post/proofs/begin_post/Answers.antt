@@ -15,4 +15,3 @@ returns-then-not-is_idle c = unfold post_begun in begun_busy _ _ _ c.serving_of-
 
 pub returns : goal.returns
 returns c = unfold post_begun in begun_idle _ _ _ c.serving_of-serving.ensures c.in-On.is c.is_idle.ensures (not_from_true _ c.if-not-is_idle.false) c.post_begins.ensures
-

@@ -8,4 +8,3 @@ returns-then-port c = unfold credits_of in yes _ _ c.if-port.true c.carried_of.e
 
 pub returns-else-port : goal.returns-else-port
 returns-else-port c = unfold credits_of in no _ _ c.if-port.false refl
-

@@ -23,4 +23,3 @@ returns-in-Text c = by₂ (post_asks _ _ _) _ c.in-Text.is (unfold post_asks in 
 
 pub returns-in-Release : goal.returns-in-Release
 returns-in-Release c = by₂ (post_asks _ _ _) _ c.in-Release.is (unfold post_asks in ap₂ (λ (x y : ℕ). Write (x + 2) y) c.slot_at-slot.ensures.0 c.high_word.ensures)
-

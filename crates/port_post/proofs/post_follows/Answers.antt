@@ -9,4 +9,3 @@ returns-in-Outside c = by (post_follows _ _ _ _ _ _) c.in-Outside.is (unfold pos
 
 pub returns-in-Value : goal.returns-in-Value
 returns-in-Value c = by (post_follows _ _ _ _ _ _) c.in-Value.is (unfold post_follows in c.post_finds.ensures)
-

@@ -13,4 +13,3 @@ returns-then-port_owns c = unfold post_high in yes _ _ (sym c.port_owns.ensures 
 
 pub returns-else-port_owns : goal.returns-else-port_owns
 returns-else-port_owns c = unfold post_high in no _ _ (sym c.port_owns.ensures ∙ c.if-port_owns.false) c.refused.ensures
-

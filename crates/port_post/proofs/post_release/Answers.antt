@@ -14,4 +14,3 @@ returns-then-has_flag c = unfold post_release in yes _ _ (sym c.has_flag.ensures
 
 pub returns-else-has_flag : goal.returns-else-has_flag
 returns-else-has_flag c = unfold post_release in no _ _ (sym c.has_flag.ensures ∙ c.if-has_flag.false) (c.post_closed.ensures ∙ ap (λ (q : Port). post_closed q false) c.posted_one-port.ensures)
-

@@ -10,4 +10,3 @@ returns-in-Closed c = by (post_tailed _ _) c.in-Closed.is (unfold post_tailed in
 
 pub returns-in-Broken : goal.returns-in-Broken
 returns-in-Broken c = by (post_tailed _ _) c.in-Broken.is (unfold post_tailed in c.failed.ensures)
-

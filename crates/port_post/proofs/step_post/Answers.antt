@@ -13,4 +13,3 @@ returns-in-At c = unfold post_step in step_on _ _ _ _ _ _ _ _ c.serving_of-servi
 
 pub returns-in-Tail : goal.returns-in-Tail
 returns-in-Tail c = unfold post_step in step_tail _ _ _ _ _ _ _ _ c.serving_of-serving.ensures c.in-On.is c.in-Tail.is c.tail_step-x.ensures c.post_tailed.ensures
-

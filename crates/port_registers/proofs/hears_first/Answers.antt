@@ -1,5 +1,4 @@
 use mathlib.Core.Path.{refl, sym, ap, ◌∙◌}
-use borrow.Author.Tests.{not-true, not-false}
 use Rattle.base_answers.specs.declared.Said.TheVariants.{Done}
 use Rattle.port_state.specs.State.{next_by}
 use Rattle.port_state.specs.Shake.{moved, first_heard}
@@ -17,4 +16,3 @@ returns-then-port c = unfold first_heard in yes _ _ (sym c.is_first.ensures ∙ 
 
 pub returns : goal.returns
 returns c = unfold first_heard in yes _ _ (sym c.is_first.ensures ∙ c.if-not-is_first.false) (no _ _ (elim c.if-wants_wrap.branch [ then-wants_wrap+else-port w ↦ wrap_hidden _ c.wants_wrap.ensures w.if-wants_wrap.true w.if-port.false | else-wants_wrap w ↦ wrap_no _ c.wants_wrap.ensures w.if-wants_wrap.false ]) (ap next_by c.moves-2.ensures ∙ ap (moved c.args.port _) c.interrupts_steps.ensures))
-

@@ -31,4 +31,3 @@ returns-in-Running c = by (shown c.args.port.made) c.in-Running.is (refl)
 pub returns-in-Failed : goal.returns-in-Failed
 unfolding sa_of
 returns-in-Failed c = by (shown c.args.port.made) c.in-Failed.is (c.fatal.ensures ∙ ap fatal_word c.code.ensures)
-

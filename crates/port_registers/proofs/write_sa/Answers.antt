@@ -29,4 +29,3 @@ returns-in-Running c = unfold sa_written in by (heard _ _ _ _) c.in-Running.is (
 
 pub returns-in-Failed : goal.returns-in-Failed
 returns-in-Failed c = unfold sa_written in by (heard _ _ _ _) c.in-Failed.is (kept _ (replies_is Done refl c.replies-in-Failed.ensures))
-

@@ -16,4 +16,3 @@ returns-then-limit-lt1 c = takes_none _ _ _ (search rules) (search rules) c.byte
 
 pub returns : goal.returns
 returns c = takes_rest _ _ _ (search rules) (search rules) c.byte_of.ensures (search rules) c.byte_of-limit.ensures (search rules)
-

@@ -6,4 +6,3 @@ returns-then-not-accepted c = run_refused _ _ c.accepted.ensures c.if-not-accept
 
 pub returns : goal.returns
 returns c = run_is _ _ _ _ c.accepted.ensures c.if-not-accepted.false c.byte_of-rings.ensures c.byte_of-limit.ensures c.started-start.ensures c.all_bytes-end.ensures c.line_of.ensures
-

@@ -6,4 +6,3 @@ invariant-loop-from g l = (l.from ≤ length l.text) × (length l.mem ≡ length
 
 abbrev pub decreases-loop-from : goal.decreases-loop-from
 decreases-loop-from g l = length l.text - l.from
-

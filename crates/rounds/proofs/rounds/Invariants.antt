@@ -6,4 +6,3 @@ invariant-loop-k l = (l.k ≤ l.count) × (length l.mem ≡ length l.initial.mem
 
 abbrev pub decreases-loop-k : goal.decreases-loop-k
 decreases-loop-k l = l.count - l.k
-

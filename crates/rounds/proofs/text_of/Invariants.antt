@@ -6,4 +6,3 @@ invariant-loop-i l = l.i ≤ 60
 
 abbrev pub decreases-loop-i : goal.decreases-loop-i
 decreases-loop-i l = 60 - l.i
-

@@ -8,4 +8,3 @@ returns-then-wants_purges c = area_is _ _ _ true (sym c.if-wants_purges.true ∙
 
 pub returns : goal.returns
 returns c = area_is _ _ _ false (sym c.if-wants_purges.false ∙ c.wants_purges.ensures) c.base_of-start.ensures.0 c.count.ensures.0 c.clear_from-2.ensures
-

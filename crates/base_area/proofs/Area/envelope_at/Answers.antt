@@ -4,4 +4,3 @@ use Rattle.base_area.proofs.Area.envelope_at.Goals as goal
 
 pub returns : goal.returns
 returns c = (envelope_is _ _ _ _ c.number.ensures.0, search rules)
-

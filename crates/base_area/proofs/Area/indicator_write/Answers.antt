@@ -7,4 +7,3 @@ returns-in-Command c = indicator_is _ _ Command _ c.in-Command.is c.base_of-star
 
 pub returns-in-Response : goal.returns-in-Response
 returns-in-Response c = indicator_is _ _ Response _ c.in-Response.is c.base_of-start.ensures.0 c.back-in-Response.ensures
-

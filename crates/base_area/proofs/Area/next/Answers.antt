@@ -3,4 +3,3 @@ use Rattle.base_area.proofs.Area.next.Goals as goal
 
 pub returns : goal.returns
 returns c = next_is _ _ c.slots_of.ensures.0 _
-

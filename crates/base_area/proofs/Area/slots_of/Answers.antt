@@ -7,4 +7,3 @@ returns-in-Command c = slots_is _ Command c.in-Command.is c.command_exponent.ens
 
 pub returns-in-Response : goal.returns-in-Response
 returns-in-Response c = slots_is _ Response c.in-Response.is c.response_exponent.ensures c.power-in-Response.ensures
-

@@ -18,4 +18,3 @@ returns-then-pool_end-base c = fits_below _ _ _ _ c.base_of-base.ensures.0 c.cou
 
 pub returns : goal.returns
 returns c = fits_above _ _ _ _ c.base_of-base.ensures.0 c.count-count.ensures.0 c.if-start-ne0.false c.if-base-lt4.false c.if-end-rings_end.false c.if-end-pool_end.false c.if-pool_end-base.false
-

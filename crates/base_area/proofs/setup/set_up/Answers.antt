@@ -1,4 +1,3 @@
-use Prim.Native.Nat.{◌-◌}
 use mathlib.Core.Path.{refl}
 use native.Mathlib.Omega.{arith}
 use borrow.Author.Rules.{rules}
@@ -13,4 +12,3 @@ loop-j-preserved c = (omega arith, (omega arith, slots_more _ _ _ c.loop-j.j _ c
 
 pub returns : goal.returns
 returns c = set_up_lem _ _ _ _ c.count-count.ensures.0 (omega arith) c.clear_part.ensures.1 c.loop-j.invariant.1.1
-

@@ -10,4 +10,3 @@ invariant-loop-j l = (l.j ≤ l.count) × ((length l.mem ≡ length l.initial.me
 
 abbrev pub decreases-loop-j : goal.decreases-loop-j
 decreases-loop-j l = l.count - l.j
-

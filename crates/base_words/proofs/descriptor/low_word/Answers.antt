@@ -7,4 +7,3 @@ overflow_cast-result c = omega (arith, low_is c.args.a)
 
 pub returns : goal.returns
 returns c = low_is _
-

@@ -7,4 +7,3 @@ overflow_sub-result c = rw (shifted_one c.args.width c.requires.1) (pow_pos c.ar
 
 pub returns : goal.returns
 returns c = mask_is _ c.args.width c.requires.1
-

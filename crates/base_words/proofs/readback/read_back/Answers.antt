@@ -5,4 +5,3 @@ use Rattle.base_words.proofs.readback.read_back.Goals as goal
 -- The fact is `read_back`. Assumes nothing.
 pub returns : goal.returns
 returns c = (refl, read_back)
-

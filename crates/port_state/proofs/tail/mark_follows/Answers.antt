@@ -9,4 +9,3 @@ returns-in-Outside c = by (mark_follows _) c.in-Outside.is (unfold mark_follows 
 
 pub returns-in-Value : goal.returns-in-Value
 returns-in-Value c = by (mark_follows _) c.in-Value.is (unfold mark_follows in ap Closed c.vectored.ensures)
-

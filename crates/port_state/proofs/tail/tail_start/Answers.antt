@@ -8,4 +8,3 @@ returns-then-is_alone c = unfold tail_start in yes _ _ (sym c.is_alone.ensures â
 
 pub returns-else-is_alone : goal.returns-else-is_alone
 returns-else-is_alone c = unfold tail_start in no _ _ (sym c.is_alone.ensures âˆ™ c.if-is_alone.false) refl
-

@@ -7,4 +7,3 @@ use Rattle.port_state.proofs.tail.test_asks.Goals as goal
 
 pub returns : goal.returns
 returns c = unfold tail_asks in ap (λ (x : ℕ). Read (x + 2)) (c.slot_at.ensures.0 ∙ ap (slot_at _ _ _) c.before-2.ensures)
-

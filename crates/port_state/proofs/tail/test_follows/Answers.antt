@@ -11,4 +11,3 @@ returns-then-port_owns c = by test_follows c.in-Value.is (unfold test_follows in
 
 pub returns-else-port_owns : goal.returns-else-port_owns
 returns-else-port_owns c = by test_follows c.in-Value.is (unfold test_follows in no _ _ (sym c.port_owns.ensures ∙ c.if-port_owns.false) refl)
-

@@ -6,4 +6,3 @@ invariant-loop-i l = l.i ≤ length l.values
 
 abbrev pub decreases-loop-i : goal.decreases-loop-i
 decreases-loop-i l = length l.values - l.i
-

@@ -6,4 +6,3 @@ invariant-loop-n l = l.n ≤ 60
 
 abbrev pub decreases-loop-n : goal.decreases-loop-n
 decreases-loop-n l = l.n
-

@@ -6,4 +6,3 @@ invariant-loop-i l = l.i ≤ length l.list
 
 abbrev pub decreases-loop-i : goal.decreases-loop-i
 decreases-loop-i l = length l.list - l.i
-

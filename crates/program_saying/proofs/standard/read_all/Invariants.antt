@@ -6,4 +6,3 @@ invariant-loop-done g l = (l.done ≤ length l.buf) × (length l.buf ≡ length 
 
 abbrev pub decreases-loop-done : goal.decreases-loop-done
 decreases-loop-done g l = length l.buf - l.done
-

@@ -6,4 +6,3 @@ invariant-loop-i l = l.i ≤ length l.s
 
 abbrev pub decreases-loop-i : goal.decreases-loop-i
 decreases-loop-i l = length l.s - l.i
-

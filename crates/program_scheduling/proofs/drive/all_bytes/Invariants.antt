@@ -8,4 +8,3 @@ invariant-loop-i l = (length l.mem ≡ length l.initial.mem) × (bytes_turns (dr
 
 abbrev pub decreases-loop-i : goal.decreases-loop-i
 decreases-loop-i l = length l.input - l.i
-

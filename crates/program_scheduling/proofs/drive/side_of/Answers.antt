@@ -12,4 +12,3 @@ returns-then-k-eq2 c = side_fetch _ c.if-k-eq2.true
 
 pub returns : goal.returns
 returns c = side_answer _ c.if-k-eq0.false c.if-k-eq1.false c.if-k-eq2.false
-

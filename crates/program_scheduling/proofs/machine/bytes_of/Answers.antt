@@ -3,4 +3,3 @@ use Rattle.program_scheduling.proofs.machine.bytes_of.Goals as goal
 
 pub returns : goal.returns
 returns c = bytes_are _
-

@@ -6,4 +6,3 @@ returns-then-b c = counted_yes _ _ _ c.if-b.true c.wrapping_add_u32.ensures.valu
 
 pub returns-else-b : goal.returns-else-b
 returns-else-b c = counted_no _ _ c.if-b.false
-

@@ -12,4 +12,3 @@ returns-in-Refused c = done_by _ _ c.in-Refused.is
 
 pub returns-in-Failed : goal.returns-in-Failed
 returns-in-Failed c = done_by _ _ c.in-Failed.is
-

@@ -3,4 +3,3 @@ use Rattle.program_scheduling.proofs.machine.text_in.Goals as goal
 
 pub returns : goal.returns
 returns c = text_is c.args.reply _ c.word_of.ensures
-

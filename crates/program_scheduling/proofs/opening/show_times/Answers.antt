@@ -7,4 +7,3 @@ loop-left-preserved c = (search rules, search rules, shows_more _ _ _ c.loop-lef
 
 pub returns : goal.returns
 returns c = sym (shows_none c.loop-left.left _ (search rules)) ∙ c.loop-left.invariant.2
-

@@ -7,4 +7,3 @@ invariant-loop-left l = (l.left ≤ l.n) × (length l.mem ≡ length l.initial.m
 
 abbrev pub decreases-loop-left : goal.decreases-loop-left
 decreases-loop-left l = l.left
-

@@ -7,4 +7,3 @@ invariant-loop-i l = (l.from ≤ l.i) × (l.i ≤ length l.s)
 
 abbrev pub decreases-loop-i : goal.decreases-loop-i
 decreases-loop-i l = length l.s - l.i
-

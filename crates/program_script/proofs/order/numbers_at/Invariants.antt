@@ -6,4 +6,3 @@ invariant-loop-i l = l.i ≤ 5
 
 abbrev pub decreases-loop-i : goal.decreases-loop-i
 decreases-loop-i l = 5 - l.i
-

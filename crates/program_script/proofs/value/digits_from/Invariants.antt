@@ -7,4 +7,3 @@ invariant-loop-i l = (l.i ≤ length l.word) × (l.n ≤ 4294967296)
 
 abbrev pub decreases-loop-i : goal.decreases-loop-i
 decreases-loop-i l = length l.word - l.i
-

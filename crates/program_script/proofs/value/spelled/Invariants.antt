@@ -6,4 +6,3 @@ invariant-loop-i l = l.i ≤ l.size
 
 abbrev pub decreases-loop-i : goal.decreases-loop-i
 decreases-loop-i l = l.size - l.i
-

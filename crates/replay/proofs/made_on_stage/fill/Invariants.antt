@@ -6,4 +6,3 @@ invariant-loop-i l = (l.i ≤ length l.initial.mem) × (length l.mem ≡ length 
 
 abbrev pub decreases-loop-i : goal.decreases-loop-i
 decreases-loop-i l = l.n - l.i
-

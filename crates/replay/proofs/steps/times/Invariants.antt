@@ -6,4 +6,3 @@ invariant-loop-left g l = (l.left ≤ l.n) × (length l.mem ≡ length l.initial
 
 abbrev pub decreases-loop-left : goal.decreases-loop-left
 decreases-loop-left g l = l.left
-

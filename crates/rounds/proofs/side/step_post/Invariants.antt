@@ -6,4 +6,3 @@ invariant-loop-steps l = (l.steps ≤ 64) × (length l.mem ≡ length l.initial.
 
 abbrev pub decreases-loop-steps : goal.decreases-loop-steps
 decreases-loop-steps l = 64 - l.steps
-

@@ -6,4 +6,3 @@ returns-then-finished c = ready_yes _ c.finished.ensures c.if-finished.true
 
 pub returns-else-finished : goal.returns-else-finished
 returns-else-finished c = ready_no _ c.finished.ensures c.if-finished.false
-

@@ -6,4 +6,3 @@ returns-then-has_word c = text_next _ _ c.has_word.ensures c.if-has_word.true c.
 
 pub returns-else-has_word : goal.returns-else-has_word
 returns-else-has_word c = closing_next _ _ c.has_word.ensures c.if-has_word.false
-

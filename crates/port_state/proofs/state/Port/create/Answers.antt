@@ -12,4 +12,3 @@ returns-then-limit-gt-MOST_LIMIT c = unfold created in no _ _ (limit_high _ c.if
 
 pub returns : goal.returns
 returns c = unfold created in yes _ _ (limit_yes _ c.if-limit-lt1.false c.if-limit-gt-MOST_LIMIT.false) (replies_is Done c.new.ensures c.replies.ensures)
-

@@ -1,5 +1,4 @@
 use native.Mathlib.Omega.{arith}
-use mathlib.Core.Logic.{⊎_elim}
 use mathlib.Core.Path.{refl, ◌∙◌}
 use Rattle.port_state.specs.Post.{posted}
 use Rattle.base_side.proofs.StepLaws.{yes, no}
@@ -11,4 +10,3 @@ returns-then-self c = unfold posted in c.with_counts.ensures ∙ counts_is c.arg
 
 pub returns : goal.returns
 returns c = unfold posted in c.with_counts-2.ensures ∙ counts_is c.args.self refl c.next-next.ensures (no _ _ c.if-self.false refl) (no _ _ c.if-self.false refl)
-

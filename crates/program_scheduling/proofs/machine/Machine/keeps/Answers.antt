@@ -6,4 +6,3 @@ returns-then-b c = kept_yes _ _ _ c.if-b.true
 
 pub returns-else-b : goal.returns-else-b
 returns-else-b c = kept_no _ _ _ c.if-b.false
-

@@ -7,4 +7,3 @@ loop-left-preserved c = (search rules, search rules, turns_more _ _ _ _ c.loop-l
 
 pub returns : goal.returns
 returns c = sym (turns_none c.loop-left.left _ _ (search rules)) ∙ c.loop-left.invariant.2
-
