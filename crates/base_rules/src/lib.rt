@@ -40,6 +40,7 @@ pub fn fault_of(kind: u16, connection: u16, size: u16) -> Fault
 }
 
 // The credits that an answer carries.
+#[tactic(auto, unfolding(crate::specs::Rules::carried_of))]
 pub fn carried_of(owed: u8) -> u8
     ensures { result ≡ carried_of owed }
 {
@@ -51,6 +52,7 @@ pub fn carried_of(owed: u8) -> u8
 }
 
 // What is still to grant after it.
+#[tactic(auto, unfolding(crate::specs::Rules::left_of, crate::specs::Rules::carried_of))]
 pub fn left_of(owed: u8) -> u8
     ensures { result ≡ left_of owed }
 {

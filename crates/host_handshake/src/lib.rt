@@ -12,6 +12,7 @@ use base_words::{hostword, shown};
 use host_state::state::{Act, Beginning, Host, Shake, Shaken, Step};
 
 // Whether a beginning's settings are good.
+#[tactic(auto, unfolding(host_state::specs::Shake::accepts))]
 fn accepted(b: Beginning) -> bool
     ensures { result ≡ accepts address_bits b }
 {

@@ -9,6 +9,7 @@ use base_answers::{Refusal, Said};
 
 impl Port {
     // Creates a port in Step 1. A limit that is not 1 to 64 is refused, and the port handed back has limit 1.
+    #[tactic(auto, unfolding(crate::specs::Shake::created))]
     pub fn create(made: Made) -> Stepped
         ensures { next_by result ≡ created made }
     {

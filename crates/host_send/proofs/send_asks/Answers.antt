@@ -24,7 +24,7 @@ pub returns-in-Text : goal.returns-in-Text
 returns-in-Text c = by₂ (send_asks _ _) _ c.in-Text.is (unfold send_asks in ap (Write (c.args.c.envelope + 4 + 2 * c.args.c.at)) c.word_of-word.ensures)
 
 pub returns-in-Closing : goal.returns-in-Closing
-returns-in-Closing c = by₂ (send_asks _ _) _ c.in-Closing.is (unfold send_asks in ap₂ Write c.slot_at-slot.ensures.0 c.low_word.ensures)
+returns-in-Closing c = by₂ (send_asks _ _) _ c.in-Closing.is (unfold send_asks in cc)
 
 pub returns-in-Release : goal.returns-in-Release
-returns-in-Release c = by₂ (send_asks _ _) _ c.in-Release.is (unfold send_asks in ap₂ (λ (x y : ℕ). Write (x + 2) y) c.slot_at-slot.ensures.0 (c.high_word.ensures ∙ ap (high_word true c.args.host.asked.flag) c.with_address-rest.ensures))
+returns-in-Release c = by₂ (send_asks _ _) _ c.in-Release.is (unfold send_asks in cc)
