@@ -7,8 +7,8 @@ use Rattle.host_state.specs.declared.state.Act.{Act}
 use Rattle.host_state.specs.declared.state.Act.TheVariants.{WriteIp, WriteSa, Waiting, IsDead, None, PortFailed, Denied}
 use Rattle.host_state.specs.declared.state.Shaken.{Shaken}
 use Rattle.host_handshake.proofs.begin.Reads as begin
-use Rattle.host_handshake.proofs.sa_seen.Reads as sa-seen
-use Rattle.host_handshake.proofs.time_is_up.Reads as time-is-up
+use Rattle.host_handshake.proofs.sa_seen.Reads as sa_seen
+use Rattle.host_handshake.proofs.time_is_up.Reads as time_is_up
 
 -- What the handshake asks gives the act back.
 act_of : Asks → Act
@@ -39,8 +39,8 @@ shaken_same r r' e =
 pub begin_determined : (κs : _) (d : _) (r r' : Shaken) (x x' : _) → begin.Post κs d r x → begin.Post κs d r' x' → r ≡ r'
 begin_determined κs d r r' x x' p q = shaken_same r r' (p ∙ sym q)
 
-pub sa_seen_determined : (κs : _) (d : _) (r r' : Shaken) (x x' : _) → sa-seen.Post κs d r x → sa-seen.Post κs d r' x' → r ≡ r'
+pub sa_seen_determined : (κs : _) (d : _) (r r' : Shaken) (x x' : _) → sa_seen.Post κs d r x → sa_seen.Post κs d r' x' → r ≡ r'
 sa_seen_determined κs d r r' x x' p q = shaken_same r r' (p ∙ sym q)
 
-pub time_is_up_determined : (κs : _) (d : _) (r r' : Shaken) (x x' : _) → time-is-up.Post κs d r x → time-is-up.Post κs d r' x' → r ≡ r'
+pub time_is_up_determined : (κs : _) (d : _) (r r' : Shaken) (x x' : _) → time_is_up.Post κs d r x → time_is_up.Post κs d r' x' → r ≡ r'
 time_is_up_determined κs d r r' x x' p q = shaken_same r r' (p ∙ sym q)
