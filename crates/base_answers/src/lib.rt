@@ -5,37 +5,37 @@ ghost use Rattle.std.specs.Prelude.{◌≡◌};
 ghost use Rattle.base_answers.specs.Told.{refusal_number, fatal_number, bare_reply, full_reply};
 
 // "Refusal numbers", document 01.
-#[derive(Clone, Copy, Drop)]
+#[derive(Clone, Copy, PartialEq, Eq, Debug)]
 pub enum Refusal {
-    NotRunning,
-    Busy,
-    TooLong,
-    NothingOpen,
-    NoCredit,
-    RingFull,
-    Empty,
-    NoSlot,
-    BadEnvelope,
-    DoesNotFit,
-    BadSetting,
-    IdleSide,
+    NotRunning = 1,
+    Busy = 2,
+    TooLong = 3,
+    NothingOpen = 4,
+    NoCredit = 5,
+    RingFull = 6,
+    Empty = 7,
+    NoSlot = 8,
+    BadEnvelope = 9,
+    DoesNotFit = 10,
+    BadSetting = 11,
+    IdleSide = 12,
 }
 
 // The fatal codes of document 004, chapter 7, that document 01 uses.
-#[derive(Clone, Copy, Drop)]
+#[derive(Clone, Copy, PartialEq, Eq, Debug)]
 pub enum Fatal {
-    EnvelopeRead,
-    EnvelopeWrite,
-    RingRead,
-    RingWrite,
-    CreditLimit,
-    InvalidConnection,
-    InterruptWrite,
-    Incompatible,
+    EnvelopeRead = 1,
+    EnvelopeWrite = 2,
+    RingRead = 6,
+    RingWrite = 7,
+    CreditLimit = 10,
+    InvalidConnection = 14,
+    InterruptWrite = 15,
+    Incompatible = 20,
 }
 
 // How a call closes.
-#[derive(Clone, Copy, Drop)]
+#[derive(Clone, Copy, PartialEq, Eq, Debug)]
 pub enum Said {
     Going,
     Done,
@@ -44,7 +44,8 @@ pub enum Said {
 }
 
 // An answer: how the call closed, the text it carries, and whether it reports an interrupt.
-#[derive(Clone, Copy, Drop)]
+// Kept: "the text in 60 bytes, zero beyond its length" is document 01's; a half has no heap, and `told_of` reads both fields.
+#[derive(Clone, Copy, PartialEq, Eq, Debug)]
 pub struct Reply {
     pub said: Said,
     pub size: u16,
@@ -53,38 +54,20 @@ pub struct Reply {
 }
 
 // The number that document 01 gives a refusal.
-pub fn number(r: Refusal) -> u16
-    ensures { result ≡ refusal_number r }
-{
-    match r {
-        Refusal::NotRunning => 1,
-        Refusal::Busy => 2,
-        Refusal::TooLong => 3,
-        Refusal::NothingOpen => 4,
-        Refusal::NoCredit => 5,
-        Refusal::RingFull => 6,
-        Refusal::Empty => 7,
-        Refusal::NoSlot => 8,
-        Refusal::BadEnvelope => 9,
-        Refusal::DoesNotFit => 10,
-        Refusal::BadSetting => 11,
-        Refusal::IdleSide => 12,
+impl From<Refusal> for u16 {
+    ghost from_gives = { λ r n. n ≡ refusal_number r };
+
+    fn from(r: Refusal) -> u16 {
+        r as u16
     }
 }
 
 // The code that chapter 7 of document 004 gives a fatal error.
-pub fn code(x: Fatal) -> u16
-    ensures { result ≡ fatal_number x }
-{
-    match x {
-        Fatal::EnvelopeRead => 1,
-        Fatal::EnvelopeWrite => 2,
-        Fatal::RingRead => 6,
-        Fatal::RingWrite => 7,
-        Fatal::CreditLimit => 10,
-        Fatal::InvalidConnection => 14,
-        Fatal::InterruptWrite => 15,
-        Fatal::Incompatible => 20,
+impl From<Fatal> for u16 {
+    ghost from_gives = { λ x n. n ≡ fatal_number x };
+
+    fn from(x: Fatal) -> u16 {
+        x as u16
     }
 }
 
@@ -92,11 +75,10 @@ pub fn code(x: Fatal) -> u16
 pub fn bare(said: Said, interrupt: bool) -> Reply
     ensures { result ≡ bare_reply said interrupt }
 {
-    let bytes = base_texts::blank();
     Reply {
         said,
         size: 0,
-        bytes,
+        bytes: base_texts::blank(),
         interrupt,
     }
 }

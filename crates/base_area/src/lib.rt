@@ -17,20 +17,21 @@ use base_words::{descriptor, hostword};
 pub const ENVELOPE: usize = 64;
 
 // The host's Step 1, Step 2 and Step 3 words.
-#[derive(Clone, Copy, Drop)]
+#[derive(Clone, Copy, PartialEq, Eq, Debug, Default)]
 pub struct Area {
     pub first: u16,
     pub second: u16,
     pub third: u16,
 }
 
-#[derive(Clone, Copy, Drop)]
+#[derive(Clone, Copy, PartialEq, Eq, Debug)]
 pub enum Ring {
     Command,
     Response,
 }
 
 // Whether the port may interrupt at all.
+#[tactic(auto, unfolding(crate::specs::Layout::has_vector))]
 pub fn vectored(first: u16) -> bool
     ensures { result ≡ has_vector first }
 {
@@ -38,14 +39,11 @@ pub fn vectored(first: u16) -> bool
 }
 
 // Whether the end of a handshake step reports an interrupt.
+#[tactic(auto, unfolding(crate::specs::Layout::step_interrupt))]
 pub fn interrupts_steps(first: u16) -> bool
     ensures { result ≡ step_interrupt first }
 {
-    if hostword::wants_interrupts(first) {
-        vectored(first)
-    } else {
-        false
-    }
+    hostword::wants_interrupts(first) && vectored(first)
 }
 
 // A power of two, of an exponent of three bits.
@@ -60,10 +58,9 @@ fn power(e: u16) -> u16
 fn back(at: usize, k: usize, v: u16) -> Touch
     ensures { result ≡ cond (leb k at) (Write (at - k) v) Below }
 {
-    if k <= at {
-        Touch::Write(at - k, v)
-    } else {
-        Touch::Below
+    match at.checked_sub(k) {
+        Some(a) => Touch::Write(a, v),
+        None => Touch::Below,
     }
 }
 
@@ -71,22 +68,23 @@ fn back(at: usize, k: usize, v: u16) -> Touch
 fn clear_from(mem: &mut [u8], at: usize, k: usize, end: usize) -> bool
     ensures { (result ≡ (leb k at && lies address_bits mem.old (at - k) end)) × (mem.new ≡ cond (leb k at) (cleared address_bits mem.old (at - k) end) mem.old) }
 {
-    if k <= at {
-        base_memory::clear_part(mem, at - k, end)
-    } else {
-        false
+    match at.checked_sub(k) {
+        Some(a) => base_memory::clear_part(mem, a, end),
+        None => false,
     }
 }
 
+// Kept: a slot is a ring and an index, two arguments as in the definitions; a cursor holds the index alone, since a side has one ring.
 impl Area {
     // How many slots a ring has.
+    #[tactic(auto, unfolding(crate::specs::Layout::slots))]
     pub fn slots_of(self, ring: Ring) -> u16
         ensures { (result ≡ slots self ring) × ((1 ≤ result) × (result ≤ 128)) }
     {
-        match ring {
-            Ring::Command => power(hostword::command_exponent(self.first)),
-            Ring::Response => power(hostword::response_exponent(self.first)),
-        }
+        power(match ring {
+            Ring::Command => hostword::command_exponent(self.first),
+            Ring::Response => hostword::response_exponent(self.first),
+        })
     }
 
     // How many slots both rings have.
@@ -97,6 +95,7 @@ impl Area {
     }
 
     // The ring base.
+    #[tactic(auto, unfolding(crate::specs::Layout::base))]
     pub fn base_of(self) -> usize
         ensures { (result ≡ base address_bits self) × (result < 262144) }
     {
@@ -114,6 +113,7 @@ impl Area {
     }
 
     // Where a slot's low word stands; its high word is 2 bytes on.
+    #[tactic(auto, unfolding(crate::specs::Layout::slot_at))]
     pub fn slot_at(self, ring: Ring, i: u8) -> usize
         ensures { (result ≡ slot_at address_bits self ring i) × (result < 264000) }
     {
@@ -121,6 +121,7 @@ impl Area {
     }
 
     // Where a slot's envelope starts in the host's pool.
+    #[tactic(auto, unfolding(crate::specs::Layout::envelope_at))]
     pub fn envelope_at(self, pool: u32, ring: Ring, i: u8) -> usize
         ensures { (result ≡ envelope_at self pool ring i) × (result < 4295000000) }
     {
@@ -128,6 +129,7 @@ impl Area {
     }
 
     // The slot after a slot.
+    #[tactic(auto, unfolding(crate::specs::Layout::next_of))]
     pub fn next(self, ring: Ring, i: u8) -> u8
         ensures { result ≡ next_of self ring i }
     {
@@ -135,6 +137,7 @@ impl Area {
     }
 
     // The slot before a slot.
+    #[tactic(auto, unfolding(crate::specs::Layout::before_of))]
     pub fn before(self, ring: Ring, i: u8) -> u8
         ensures { result ≡ before_of self ring i }
     {
@@ -146,6 +149,7 @@ impl Area {
     }
 
     // Whether a ring has one slot.
+    #[tactic(auto, unfolding(crate::specs::Layout::alone))]
     pub fn is_alone(self, ring: Ring) -> bool
         ensures { result ≡ alone self ring }
     {
@@ -153,6 +157,7 @@ impl Area {
     }
 
     // A write to a ring's indicator.
+    #[tactic(auto, unfolding(crate::specs::Layout::indicator))]
     pub fn indicator_write(self, ring: Ring, v: u16) -> Touch
         ensures { result ≡ indicator address_bits self ring v }
     {
@@ -164,14 +169,17 @@ impl Area {
     }
 
     // Makes the area zero from before the indicators to the end of the rings, all or nothing.
+    #[tactic(auto, unfolding(crate::specs::Layout::area_lies, crate::specs::Layout::area_cleared))]
     pub fn clear_area(self, mem: &mut [u8]) -> bool
         ensures { (result ≡ area_lies address_bits mem.old self) × (mem.new ≡ area_cleared address_bits mem.old self) }
     {
         let start = self.base_of();
-        let end = start + 4 * (self.count() as usize);
-        if hostword::wants_purges(self.second) {
-            return clear_from(mem, start, 8, end);
-        }
-        clear_from(mem, start, 4, end)
+        let end = start + 4 * self.count() as usize;
+        let lead = if hostword::wants_purges(self.second) {
+            8
+        } else {
+            4
+        };
+        clear_from(mem, start, lead, end)
     }
 }

@@ -4,34 +4,22 @@ use Prim.Native.Nat.{ℕ, ◌+◌, ◌*◌, ◌-◌, ◌/◌, ◌%◌, ◌<◌, 
 use mathlib.Core.Path.{◌≡◌, refl, sym, ap, ap₂, ◌∙◌}
 use mathlib.Core.Bool.{Bool, true, false, cond}
 use mathlib.Core.Logic.{◌⊎◌, inl, inr}
-use mathlib.Core.List.{List, ◌++◌, append-nil}
+use mathlib.Core.List.{◌++◌}
 use native.Mathlib.Omega.{arith}
+use Rattle.std.specs.Prelude.{◌&&◌}
 use lib.Dec.{leb}
 use lib.ListN.{length, get_or, set, take, drop, replicate, length-set, length-drop, length-take, length-append, length-replicate, get_or-replicate, get_or-append}
-use lib.Seq.{get_or-set_same, get_or-set_other, drop-length, drop-drop, length-take-le, get_or-append-add, get_or-take, get_or-drop}
-use borrow.Author.Fill.{fill_more}
-use borrow.Author.Tests.{le-leb, lt-leb, leb-true}
+use lib.Seq.{get_or-set_same, get_or-set_other, drop-drop, length-take-le, get_or-append-add, get_or-take, get_or-drop}
+use borrow.Author.Tests.{le-leb, leb-true}
 use Rattle.base_memory.specs.Memory.{Memory, usable, lies, inside, word_in, word_at, with_word, cleared}
-use Rattle.base_memory.specs.declared.Word.TheVariants.{Value, Outside}
+use Rattle.std.specs.Prelude.{Some}
 
 -- usable memory
 pub usable_le : (n size : ℕ) → usable n size ≤ size
 unfolding usable
 usable_le n size = omega arith
 
-pub usable_short : (size : ℕ) → size / 2 * 2 ≤ 262144 → size / 2 * 2 ≡ usable 18 size
-unfolding usable
-usable_short size h = omega arith
-
-pub usable_long : (size : ℕ) → 262144 < size / 2 * 2 → 262144 ≡ usable 18 size
-unfolding usable
-usable_long size h = omega arith
-
 -- a word inside, as a fact
-pub inside_no : (n : ℕ) (m : Memory) (a u : ℕ) → u ≡ usable n (length m) → u < a + 2 → false ≡ inside n m a
-unfolding inside
-inside_no n m a u e h = sym (lt-leb (a + 2) (usable n (length m)) (omega arith))
-
 pub inside_yes : (n : ℕ) (m : Memory) (a u : ℕ) → u ≡ usable n (length m) → a + 2 ≤ u → true ≡ inside n m a
 unfolding inside
 inside_yes n m a u e h = sym (le-leb (a + 2) (usable n (length m)) (omega arith))
@@ -40,21 +28,19 @@ pub inside_end : (n : ℕ) (m : Memory) (a : ℕ) → inside n m a ≡ true → 
 unfolding inside
 inside_end n m a e = omega (arith, leb-true (a + 2) (usable n (length m)) e, usable_le n (length m))
 
-pub word_at_no : (n : ℕ) (m : Memory) (a : ℕ) → false ≡ inside n m a → Outside ≡ word_at n m a
-unfolding word_at
-word_at_no n m a e = rw (← e)
+pub inside_fits : (n : ℕ) (m : Memory) (a : ℕ) → true ≡ inside n m a → a + 2 ≤ length m
+inside_fits n m a e = inside_end n m a (sym e)
 
-pub word_at_yes : (n : ℕ) (m : Memory) (a : ℕ) → true ≡ inside n m a → Value (word_in m a) ≡ word_at n m a
+pub inside_still : (n : ℕ) (m : Memory) (a x : ℕ) → true ≡ inside n m a → a + 1 < length (set m a x)
+inside_still n m a x e = simp length-set (omega (arith, inside_fits n m a e))
+
+pub word_at_yes : (n : ℕ) (m : Memory) (a : ℕ) → true ≡ inside n m a → Some (word_in m a) ≡ word_at n m a
 unfolding word_at
 word_at_yes n m a e = rw (← e)
 
 pub with_word_no : (n : ℕ) (m : Memory) (a v : ℕ) → false ≡ inside n m a → m ≡ with_word n m a v
 unfolding with_word
 with_word_no n m a v e = rw (← e)
-
-pub with_word_yes : (n : ℕ) (m : Memory) (a v : ℕ) → true ≡ inside n m a → set (set m a (v % 256)) (a + 1) (v / 256) ≡ with_word n m a v
-unfolding with_word
-with_word_yes n m a v e = rw (← e)
 
 -- the length is kept, and so is every byte of another word
 pub with_word_length : (n : ℕ) (m : Memory) (a v : ℕ) → length (with_word n m a v) ≡ length m
@@ -93,9 +79,9 @@ with_word_other n m a v j p q = go (inside n m a)
     go false = refl
 
 -- a word that was written is read back; a word that does not meet it is as it was
-pub read_own : (n : ℕ) (m : Memory) (a v : ℕ) → inside n m a ≡ true → v < 65536 → word_at n (with_word n m a v) a ≡ Value v
+pub read_own : (n : ℕ) (m : Memory) (a v : ℕ) → inside n m a ≡ true → v < 65536 → word_at n (with_word n m a v) a ≡ Some v
 unfolding word_at
-read_own n m a v e h = rw (with_word_inside n m a v a, e, with_word_low n m a v e, with_word_high n m a v e) (ap Value (omega arith))
+read_own n m a v e h = rw (with_word_inside n m a v a, e, with_word_low n m a v e, with_word_high n m a v e) (ap Some (omega arith))
 
 pub word_in_other : (n : ℕ) (m : Memory) (a b v : ℕ) → (a + 1 < b) ⊎ (b + 1 < a) → word_in (with_word n m a v) b ≡ word_in m b
 word_in_other n m a b v (inl d) =
@@ -108,38 +94,35 @@ unfolding word_at
 read_other n m a b v d = rw (with_word_inside n m a v b, word_in_other n m a b v d)
 
 -- clearing a part
-pub fill_done : (p : List ℕ) (i v : ℕ) (d : List ℕ) → p ≡ replicate i v ++ drop i d → i ≡ length d → p ≡ replicate (length d) v
-fill_done p i v d h e = rw (h, e, drop-length, append-nil)
-
-pub fill_step : (p : List ℕ) (i v : ℕ) (d : List ℕ) → p ≡ replicate i v ++ drop i d → i < length d → set p i v ≡ replicate (i + 1) v ++ drop (i + 1) d
-fill_step p i v d h l = ap (λ (x : List ℕ). set x i v) h ∙ fill_more i v d l
-
 module _ (n : ℕ) (m : Memory) (a e u : ℕ) (eq : u ≡ usable n (length m)) where
-  pub lies_late : e < a → false ≡ lies n m a e
-  unfolding lies
-  lies_late h = simp (lt-leb a e h)
-
-  pub lies_past : a ≤ e → u < e → false ≡ lies n m a e
-  unfolding lies
-  lies_past h l = simp (le-leb a e h, lt-leb e (usable n (length m)) (omega arith))
-
   pub lies_yes : a ≤ e → e ≤ u → true ≡ lies n m a e
   unfolding lies
   lies_yes h l = simp (le-leb a e h, le-leb e (usable n (length m)) (omega arith))
+
+both : (x y : Bool) → true ≡ (x && y) → (x ≡ true) × (y ≡ true)
+both true true e = (refl, refl)
+both true false e = absurd (cc e)
+both false y e = absurd (cc e)
+
+pub lies_fits : (n : ℕ) (m : Memory) (a e : ℕ) → true ≡ lies n m a e → (a ≤ e) × (e ≤ length m)
+unfolding lies
+lies_fits n m a e t =
+    let b = both (leb a e) (leb e (usable n (length m))) t in
+    (leb-true a e b.0, omega (arith, leb-true e (usable n (length m)) b.1, usable_le n (length m)))
 
 pub cleared_no : (n : ℕ) (m : Memory) (a e : ℕ) → false ≡ lies n m a e → m ≡ cleared n m a e
 unfolding cleared
 cleared_no n m a e h = rw (← h)
 
 -- the part comes back as zeros, between what stood before it and what stood after it
-pub cleared_yes : (n : ℕ) (m p : Memory) (a e u : ℕ) → u ≡ usable n (length m) → a ≤ e → e ≤ u → p ≡ replicate (length (take (e - a) (drop a m))) 0
+pub cleared_yes : (n : ℕ) (m p : Memory) (a e : ℕ) → true ≡ lies n m a e → p ≡ replicate (length (take (e - a) (drop a m))) 0
     → take a m ++ (p ++ drop (e - a) (drop a m)) ≡ cleared n m a e
 unfolding cleared
-cleared_yes n m p a e u eq h l g =
-    let q : e ≤ length m = omega (arith, usable_le n (length m)) in
-    let s : a + (e - a) ≡ e = omega arith in
-    let k : e - a ≤ length (drop a m) = simp length-drop (omega arith) in
-    rw (← lies_yes n m a e u eq h l, g, length-take-le, drop-drop, s)
+cleared_yes n m p a e t g =
+    let f = lies_fits n m a e t in
+    let s : a + (e - a) ≡ e = omega (arith, f.0) in
+    let k : e - a ≤ length (drop a m) = simp length-drop (omega (arith, f.0, f.1)) in
+    rw (← t, g, length-take-le, drop-drop, s)
 
 -- every byte after a clearing: zero inside, as it was outside
 module _ (n : ℕ) (m : Memory) (a e : ℕ) (t : lies n m a e ≡ true) (p : a ≤ e) (q : e ≤ length m) where

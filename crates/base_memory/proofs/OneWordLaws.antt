@@ -8,8 +8,6 @@ use lib.Dec.{leb}
 use lib.ListN.{length, get_or}
 use Rattle.base_memory.specs.Memory.{Memory, usable, inside, word_at, with_word}
 use Rattle.base_memory.specs.OneWord.{found, left, Touches, Same}
-use Rattle.base_memory.specs.declared.Word.{Word}
-use Rattle.base_memory.specs.declared.Word.TheVariants.{Value, Outside}
 use Rattle.base_memory.specs.declared.Touch.{Touch}
 use Rattle.base_memory.specs.declared.Touch.TheVariants.{Nothing, Below, Read, Write}
 use Rattle.base_memory.proofs.Laws.{with_word_length, with_word_low, with_word_high, with_word_other, with_word_no}
@@ -59,14 +57,3 @@ left_same n m m' Below s j h = absurd h
 left_same n m m' (Read a) s j h = s.agree j h
 left_same n m m' (Write a v) s j (inl e) = rw e (byte_same n m m' a v a (v % 256) s.size (s.agree a (inl refl)) (λ k t. with_word_low n k a v t))
 left_same n m m' (Write a v) s j (inr e) = rw e (byte_same n m m' a v (a + 1) (v / 256) s.size (s.agree (a + 1) (inr refl)) (λ k t. with_word_high n k a v t))
-
--- the ways through a touch, as the code has them
-module _ (n : ℕ) (m : Memory) (t : Touch) where
-  pub by_read : {a : ℕ} {w : Word} → t ≡ Read a → w ≡ word_at n m a → (w ≡ found n m t) × (m ≡ left n m t)
-  by_read e f = (rw (e, f), rw e)
-
-  pub by_write : {a v : ℕ} {b : Bool} {m' : Memory} → t ≡ Write a v → (b ≡ inside n m a) × (m' ≡ with_word n m a v) → b ≡ true → (Value v ≡ found n m t) × (m' ≡ left n m t)
-  by_write e f g = (rw (e, ← f.0, g), rw (e, f.1))
-
-  pub by_miss : {a v : ℕ} {b : Bool} {m' : Memory} → t ≡ Write a v → (b ≡ inside n m a) × (m' ≡ with_word n m a v) → b ≡ false → (Outside ≡ found n m t) × (m' ≡ left n m t)
-  by_miss e f g = (rw (e, ← f.0, g), rw (e, f.1))

@@ -1,8 +1,6 @@
 -- Host memory as document 01 has it: a lent run of bytes of any length, words low byte first.
 -- Everything is over n, the number of address bits: 18 today.
-use Rattle.std.specs.Prelude.{ℕ, ◌+◌, ◌*◌, ◌-◌, ◌/◌, ◌%◌, ◌^◌, min, Bool, cond, ◌&&◌, List, ◌++◌, leb, length, get_or, set, take, drop, replicate}
-use Rattle.base_memory.specs.declared.Word.{Word}
-use Rattle.base_memory.specs.declared.Word.TheVariants.{Value, Outside}
+use Rattle.std.specs.Prelude.{ℕ, ◌+◌, ◌*◌, ◌-◌, ◌/◌, ◌%◌, ◌^◌, min, Bool, cond, ◌&&◌, List, ◌++◌, leb, length, get_or, set, take, drop, replicate, Option, Some, None}
 
 abbrev pub Memory : Type 0
 Memory = List ℕ
@@ -24,8 +22,8 @@ abbrev pub word_in : Memory → ℕ → ℕ
 word_in m a = get_or m a 0 + get_or m (a + 1) 0 * 256
 
 -- What a read of the word at an address finds.
-unfoldable pub word_at : ℕ → Memory → ℕ → Word
-word_at n m a = cond (inside n m a) (Value (word_in m a)) Outside
+unfoldable pub word_at : ℕ → Memory → ℕ → Option ℕ
+word_at n m a = cond (inside n m a) (Some (word_in m a)) None
 
 -- Memory with a word written at an address; unchanged where that word lies outside.
 unfoldable pub with_word : ℕ → Memory → ℕ → ℕ → Memory

@@ -1,17 +1,15 @@
 -- "One step touches at most one word": what a step does to memory is one of these, and nothing else.
-use Rattle.std.specs.Prelude.{ℕ, ◌+◌, ◌≡◌, length, get_or, cond, ◌⊎◌}
+use Rattle.std.specs.Prelude.{ℕ, ◌+◌, ◌≡◌, length, get_or, cond, ◌⊎◌, Option, Some, None}
 use Rattle.base_memory.specs.Memory.{Memory, inside, word_at, with_word}
-use Rattle.base_memory.specs.declared.Word.{Word}
-use Rattle.base_memory.specs.declared.Word.TheVariants.{Value, Outside}
 use Rattle.base_memory.specs.declared.Touch.{Touch}
 use Rattle.base_memory.specs.declared.Touch.TheVariants.{Nothing, Below, Read, Write}
 
 -- The word that a touch finds: what it reads, or what it wrote. A word below address 0 is outside; touching nothing finds 0.
-abbrev pub found : ℕ → Memory → Touch → Word
-found n m Nothing = Value 0
-found n m Below = Outside
+abbrev pub found : ℕ → Memory → Touch → Option ℕ
+found n m Nothing = Some 0
+found n m Below = None
 found n m (Read a) = word_at n m a
-found n m (Write a v) = cond (inside n m a) (Value v) Outside
+found n m (Write a v) = cond (inside n m a) (Some v) None
 
 -- What a touch leaves in memory.
 abbrev pub left : ℕ → Memory → Touch → Memory

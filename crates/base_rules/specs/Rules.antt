@@ -1,14 +1,13 @@
 -- What an envelope's header must say, and what credits an answer carries.
-use Rattle.std.specs.Prelude.{ℕ, ◌+◌, ◌-◌, min, cond, leb, eqb}
+use Rattle.std.specs.Prelude.{ℕ, ◌+◌, ◌-◌, min, cond, leb, eqb, Result, Ok, Err}
 use Rattle.base_texts.specs.Texts.{room}
+use Rattle.base_answers.specs.declared.Fatal.{Fatal}
 use Rattle.base_answers.specs.declared.Fatal.TheVariants.{InvalidConnection, Incompatible}
-use Rattle.base_rules.specs.declared.Fault.{Fault}
-use Rattle.base_rules.specs.declared.Fault.TheVariants.{Sound, Unsound}
 
 -- "type not 0, 20; connection not 0, 14; length over 60, 20", in that order.
-unfoldable pub fault_of : ℕ → ℕ → ℕ → Fault
+unfoldable pub fault_of : ℕ → ℕ → ℕ → Result (Unit {0}) Fatal
 fault_of kind connection size =
-    cond (eqb kind 0) (cond (eqb connection 0) (cond (leb size room) Sound (Unsound Incompatible)) (Unsound InvalidConnection)) (Unsound Incompatible)
+    cond (eqb kind 0) (cond (eqb connection 0) (cond (leb size room) (Ok tt) (Err Incompatible)) (Err InvalidConnection)) (Err Incompatible)
 
 -- "limit 1 to 64 (*house*); account at most 255"; "at most 15".
 abbrev pub most_limit : ℕ

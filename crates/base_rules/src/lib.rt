@@ -6,13 +6,6 @@ ghost use Rattle.base_rules.specs.Rules.{fault_of, carried_of, left_of};
 
 use base_answers::Fatal;
 
-// What is wrong with an envelope.
-#[derive(Clone, Copy, Drop)]
-pub enum Fault {
-    Sound,
-    Unsound(Fatal),
-}
-
 // "limit 1 to 64 (house)"; "account at most 255"; an answer carries "at most 15".
 pub const MOST_LIMIT: u8 = 64;
 
@@ -20,22 +13,16 @@ pub const MOST_ACCOUNT: u16 = 255;
 
 pub const MOST_CARRIED: u8 = 15;
 
-// "by one less than it carries", where it carries most.
-const ONE_LESS: u8 = MOST_CARRIED - 1;
-
-// Decides by message type, connection and length.
-pub fn fault_of(kind: u16, connection: u16, size: u16) -> Fault
+// Decides by message type, connection and length; an envelope that will not do has a fatal code.
+#[tactic(auto, unfolding(crate::specs::Rules::fault_of))]
+pub fn fault_of(kind: u16, connection: u16, size: u16) -> Result<(), Fatal>
     ensures { result ≡ fault_of kind connection size }
 {
-    match kind {
-        0 => match connection {
-            0 => match size {
-                0..=60 => Fault::Sound,
-                _ => Fault::Unsound(Fatal::Incompatible),
-            },
-            _ => Fault::Unsound(Fatal::InvalidConnection),
-        },
-        _ => Fault::Unsound(Fatal::Incompatible),
+    match (kind, connection, size) {
+        (0, 0, 0..=base_texts::LENGTH) => Ok(()),
+        (0, 0, _) => Err(Fatal::Incompatible),
+        (0, _, _) => Err(Fatal::InvalidConnection),
+        _ => Err(Fatal::Incompatible),
     }
 }
 
@@ -44,11 +31,7 @@ pub fn fault_of(kind: u16, connection: u16, size: u16) -> Fault
 pub fn carried_of(owed: u8) -> u8
     ensures { result ≡ carried_of owed }
 {
-    if owed < MOST_CARRIED {
-        owed + 1
-    } else {
-        MOST_CARRIED
-    }
+    owed.saturating_add(1).min(MOST_CARRIED)
 }
 
 // What is still to grant after it.
@@ -56,9 +39,5 @@ pub fn carried_of(owed: u8) -> u8
 pub fn left_of(owed: u8) -> u8
     ensures { result ≡ left_of owed }
 {
-    if MOST_CARRIED <= owed {
-        owed - ONE_LESS
-    } else {
-        0
-    }
+    owed - (carried_of(owed) - 1)
 }

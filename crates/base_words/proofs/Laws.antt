@@ -1,13 +1,13 @@
 -- Shifts and masks are the fields' arithmetic: one law for a mask, one for an OR of fields that do not meet. Assumes nothing.
-use Prim.Native.Nat.{ℕ, ◌+◌, ◌*◌, ◌-◌, ◌/◌, ◌%◌, ◌^◌, ◌<◌}
+use Prim.Native.Nat.{ℕ, ◌+◌, ◌*◌, ◌-◌, ◌/◌, ◌%◌, ◌^◌, ◌<◌, ◌≤◌}
 use mathlib.Core.Path.{◌≡◌, refl, sym, ap, ap₂, ◌∙◌}
 use mathlib.Core.Bool.{Bool, true, false}
 use native.Mathlib.Omega.{arith}
 use native.Mathlib.Nat.{one-mul, mod-eq_of_lt}
 use lib.Bits.{bit_and, bit_or, and_mask, and_high, or_shifted, or_shifted_r}
-use lib.Pow.{pow-lt}
+use lib.Pow.{pow-lt, pow_pos}
 use Rattle.base_words.specs.Fields.{flag}
-use Rattle.base_words.specs.Words.{step1_word, step2_word, step3_word, step4_word, fatal_word, first_word, high_word, low_word, with_address, address_of, address_bits}
+use Rattle.base_words.specs.Words.{first_word, high_word, low_word}
 
 -- 1 shifted within a word
 pub shifted_one : (k : ℕ) → k < 16 → 1 * 2 ^ k % 65536 ≡ 2 ^ k
@@ -15,6 +15,9 @@ shifted_one k h = ap (λ (n : ℕ). n % 65536) (one-mul (2 ^ k)) ∙ mod-eq_of_l
 
 pub mask_is : (n k : ℕ) → k < 16 → bit_and n (1 * 2 ^ k % 65536 - 1) ≡ n % 2 ^ k
 mask_is n k h = ap (λ (m : ℕ). bit_and n (m - 1)) (shifted_one k h) ∙ and_mask n k
+
+pub mask_fits : (k : ℕ) → k < 16 → 1 ≤ 1 * 2 ^ k % 65536
+mask_fits k h = rw (shifted_one k h) (pow_pos k)
 
 -- an OR of a number of whole 2 ^ k's and one below 2 ^ k, either way round, is their sum
 pub or_is : (n x k b : ℕ) → n ≡ x * 2 ^ k → b < 2 ^ k → bit_or n b ≡ n + b
@@ -27,29 +30,7 @@ pub flag_lt : (b : Bool) → flag b < 2
 flag_lt true = omega arith
 flag_lt false = omega arith
 
--- a part of one word, found in the other's place
-pub step2_is : (w p : ℕ) → w < 65536 → p ≡ w / 2 ^ 8 % 2 ^ 8 → bit_or p 4096 ≡ step2_word w
-step2_is w p h e = or_up p 4096 1 12 refl (omega arith) ∙ omega arith
-
-pub step3_is : (w p : ℕ) → p ≡ w / 2 ^ 0 % 2 ^ 8 → bit_or p 8192 ≡ step3_word w
-step3_is w p e = or_up p 8192 1 13 refl (omega arith) ∙ omega arith
-
-pub step4_is : (v : ℕ) → v < 256 → bit_or v 16384 ≡ step4_word v
-step4_is v h = or_up v 16384 1 14 refl (omega arith) ∙ omega arith
-
-pub fatal_is : (x p : ℕ) → p ≡ x / 2 ^ 0 % 2 ^ 11 → bit_or p 32768 ≡ fatal_word x
-fatal_is x p e = or_up p 32768 1 15 refl (omega arith) ∙ omega arith
-
-pub step1_is : (x y z : ℕ) (n q d : Bool) → x ≡ flag n * 2 ^ 10 → y ≡ flag q * 2 ^ 9 → z ≡ flag d * 2 ^ 8
-    → bit_or (bit_or (bit_or x y) z) 2048 ≡ step1_word n q d
-step1_is x y z n q d ex ey ez =
-    let hn = flag_lt n in
-    let hq = flag_lt q in
-    let hd = flag_lt d in
-    let a : bit_or x y ≡ x + y = or_is x (flag n) 10 y ex (omega arith) in
-    let b : bit_or (x + y) z ≡ x + y + z = or_is (x + y) (flag n * 2 + flag q) 9 z (omega arith) (omega arith) in
-    ap (λ (t : ℕ). bit_or (bit_or t z) 2048) a ∙ ap (λ (t : ℕ). bit_or t 2048) b ∙ or_up (x + y + z) 2048 1 11 refl (omega arith) ∙ omega arith
-
+-- the host's Step 1 word, and a high word
 first_sum : (x y f t : ℕ) → f < 2 → 32768 + (x * 2048 + y * 256 + f * 2 ^ 7 + t) ≡ 32768 + x * 2048 + y * 256 + f % 2 * 128 + t * 1
 first_sum x y f t h = omega arith
 
@@ -85,15 +66,5 @@ high_is x y t rest o f ex ey et =
 pub low_is : (a : ℕ) → bit_and a 65534 ≡ low_word a
 low_is a = and_high a 15 1
 
-pub with_is : (x y rest a h : ℕ) → rest < 65536 → x ≡ rest / 2 ^ 2 % 2 ^ 12 → h ≡ a / 2 ^ 16 % 2 ^ 16 → y ≡ h / 2 ^ 0 % 2 ^ 2
-    → bit_or (x * 4 % 65536) y ≡ with_address address_bits rest a
-with_is x y rest a h l ex eh ey =
-    let f : x * 4 % 65536 ≡ x * 4 = omega arith in
-    ap (λ (n : ℕ). bit_or n y) f ∙ or_is (x * 4) x 2 y refl (omega arith) ∙ omega arith
-
-pub address_is : (x y low high : ℕ) → low < 65536 → x ≡ high / 2 ^ 0 % 2 ^ 2 → y ≡ low / 2 ^ 1 % 2 ^ 15
-    → bit_or (x * 65536 % 4294967296) (y * 2 % 4294967296) ≡ address_of address_bits low high
-address_is x y low high l ex ey =
-    let f : x * 65536 % 4294967296 ≡ x * 65536 = omega arith in
-    let g : y * 2 % 4294967296 ≡ y * 2 = omega arith in
-    ap₂ bit_or f g ∙ or_is (x * 65536) x 16 (y * 2) refl (omega arith) ∙ omega arith
+pub low_fits : (a : ℕ) → bit_and a 65534 < 65536
+low_fits a = omega (arith, low_is a)

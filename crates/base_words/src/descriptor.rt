@@ -36,6 +36,7 @@ pub fn high_half(a: usize) -> u16
 }
 
 // The low word for an address.
+#[tactic(auto, using(crate::proofs::Laws::low_is, crate::proofs::Laws::low_fits))]
 pub fn low_word(a: usize) -> u16
     ensures { result ≡ low_word a }
 {

@@ -1,5 +1,6 @@
 -- One induction over the calls: owed + unanswered + granted is the limit + fetched; a fetch past its header has a credit, and an answer
 -- under way an open command. Assumes nothing.
+use Rattle.std.specs.Prelude.{Err, None, Ok, Option, Result, Some}
 use Prim.Native.Nat.{ℕ, ◌+◌, ◌*◌, ◌-◌, ◌<◌, ◌≤◌, min}
 use mathlib.Core.Path.{◌≡◌, refl, sym, subst, ◌∙◌}
 use mathlib.Core.Bool.{Bool, true, false, cond, ◌&&◌, false≢true}
@@ -14,14 +15,10 @@ use Rattle.base_words.specs.Words.{address_of}
 use Rattle.base_texts.specs.Texts.{words_of, padded, zeros}
 use Rattle.base_memory.specs.Memory.{Memory, usable, lies, inside, word_at, cleared}
 use Rattle.base_memory.specs.OneWord.{found}
-use Rattle.base_memory.specs.declared.Word.{Word}
-use Rattle.base_memory.specs.declared.Word.TheVariants.{Value, Outside}
 use Rattle.base_answers.specs.Told.{told, done, fatal}
 use Rattle.base_answers.specs.declared.Fatal.{Fatal}
 use Rattle.base_answers.specs.declared.Fatal.TheVariants.{EnvelopeRead, EnvelopeWrite, CreditLimit, InvalidConnection, Incompatible}
 use Rattle.base_rules.specs.Rules.{carried_of, left_of, fault_of}
-use Rattle.base_rules.specs.declared.Fault.{Fault}
-use Rattle.base_rules.specs.declared.Fault.TheVariants.{Sound, Unsound}
 use Rattle.base_rules.proofs.Laws.{nothing_lost, carried_bounds}
 use Rattle.base_area.specs.Layout.{area_lies, area_cleared, step_interrupt, slots, base, slot_at, next_of, has_vector}
 use Rattle.base_area.specs.declared.Area.{Area}
@@ -39,13 +36,10 @@ use Rattle.port_state.specs.declared.state.Asked.{Asked}
 use Rattle.port_state.specs.declared.state.Made.{Made}
 use Rattle.port_state.specs.declared.state.Phase.{Phase}
 use Rattle.port_state.specs.declared.state.Phase.TheVariants.{Step1, Wrap, Step2, Step3, Step4, Running, Failed}
-use Rattle.port_state.specs.declared.state.Serving.{Serving}
-use Rattle.port_state.specs.declared.state.Serving.TheVariants.{Off, On}
 use Rattle.port_state.specs.declared.state.Stage.TheVariants.{High, Low, Length, Header, Text, Release}
 use Rattle.port_state.specs.declared.state.TailStage.{TailStage}
 use Rattle.port_state.specs.declared.state.TailStage.TheVariants.{Test, Mark}
-use Rattle.port_state.specs.declared.state.TailEnd.{TailEnd}
-use Rattle.port_state.specs.declared.state.TailEnd.TheVariants.{Onward, Closed, Broken}
+use Rattle.port_state.specs.Tail.{TailEnd}
 use Rattle.port_state.specs.declared.state.Side.{Side}
 use Rattle.port_state.specs.declared.state.Side.TheVariants.{Idle, At, Tail}
 use Rattle.port_state.specs.declared.state.Port.{Port}
@@ -135,28 +129,28 @@ module _ (p : Port) (l : Ledger) (K : Kept p l) where
   ---------------------------------------------------------------- the fetch side
 
   module _ (n : ℕ) (a : Area) (end : ℕ) (c : Cursor) where
-    high_step : (w : Word) → Kept (fetch_follows n p a end High c w).state l
+    high_step : (w : Option ℕ) → Kept (fetch_follows n p a end High c w).state l
     unfolding fetch_follows fetch_high
-    high_step Outside = fails _
-    high_step (Value v) = either (is_set owner v) _ _ (fetch_to _ tt) (fetch_to _ tt)
+    high_step None = fails _
+    high_step (Some v) = either (is_set owner v) _ _ (fetch_to _ tt) (fetch_to _ tt)
 
-    low_step : (w : Word) → Kept (fetch_follows n p a end Low c w).state l
+    low_step : (w : Option ℕ) → Kept (fetch_follows n p a end Low c w).state l
     unfolding fetch_follows fetch_low
-    low_step Outside = fails _
-    low_step (Value v) =
+    low_step None = fails _
+    low_step (Some v) =
         either (leb 4 (address_of n v c.high) && leb (address_of n v c.high) end)
         (onward (with_fetcher p (At Length (with_envelope c (address_of n v c.high - 4)))))
         (fail p EnvelopeRead)
         (fetch_to _ tt) (fails _)
 
-    length_step : (w : Word) → Kept (fetch_follows n p a end Length c w).state l
+    length_step : (w : Option ℕ) → Kept (fetch_follows n p a end Length c w).state l
     unfolding fetch_follows
-    length_step Outside = fails _
-    length_step (Value v) = fetch_to _ tt
+    length_step None = fails _
+    length_step (Some v) = fetch_to _ tt
 
-    judged : (f : Fault) → Kept (header_sound p end c f).state l
-    judged (Unsound x) = fails x
-    judged Sound =
+    judged : (f : Result (Unit {0}) Fatal) → Kept (header_sound p end c f).state l
+    judged (Err x) = fails x
+    judged (Ok tt) =
         either (leb (c.envelope + 4 + 2 * words_of c.size) end)
         (cond (credit_out p) (onward (with_fetcher p (text_or_release c 0))) (fail p CreditLimit))
         (fail p EnvelopeRead)
@@ -167,23 +161,23 @@ module _ (p : Port) (l : Ledger) (K : Kept p l) where
         credit true e = fetch_to _ (text_ahead c 0 (p.counts.owed + p.counts.unanswered) p.made.limit (ltb-true (p.counts.owed + p.counts.unanswered) p.made.limit e))
         credit false e = fails _
 
-    header_step : (w : Word) → Kept (fetch_follows n p a end Header c w).state l
+    header_step : (w : Option ℕ) → Kept (fetch_follows n p a end Header c w).state l
     unfolding fetch_follows fetch_header
-    header_step Outside = fails _
-    header_step (Value v) = judged (fault_of (of message_type v) (of connection v) c.size)
+    header_step None = fails _
+    header_step (Some v) = judged (fault_of (of message_type v) (of connection v) c.size)
 
-    text_step : p.fetcher ≡ At Text c → (w : Word) → Kept (fetch_follows n p a end Text c w).state l
+    text_step : p.fetcher ≡ At Text c → (w : Option ℕ) → Kept (fetch_follows n p a end Text c w).state l
     unfolding fetch_follows fetch_text
-    text_step e Outside = fails _
-    text_step e (Value v) =
+    text_step e None = fails _
+    text_step e (Some v) =
         let h : p.counts.owed + p.counts.unanswered < p.made.limit = subst (λ (x : Side). Ahead (p.counts.owed + p.counts.unanswered) p.made.limit x) e K.ahead in
         record { sum = K.sum; some = K.some; most = K.most; ahead = text_ahead c (c.at + 1) _ _ h; due = K.due }
 
     tail_step : (x : TailEnd) → Kept (fetch_tailed p c x).state l
     unfolding fetch_tailed
-    tail_step Onward = fetch_to _ tt
-    tail_step (Closed i) = fetch_to _ tt
-    tail_step (Broken x) = fails x
+    tail_step (Ok None) = fetch_to _ tt
+    tail_step (Ok (Some i)) = fetch_to _ tt
+    tail_step (Err x) = fails x
 
     -- the release: one more command is fetched, and open
     fetched_kept : p.fetcher ≡ At Release c → (x : Side) → ((k m : ℕ) → Ahead k m x) → Kept (with_fetcher (fetched p a c) x) (fetched_one l)
@@ -198,11 +192,11 @@ module _ (p : Port) (l : Ledger) (K : Kept p l) where
           due = due_more p.asked.answers p.counts.unanswered (min (p.counts.unanswered + 1) 255) p.poster (omega (arith, h, K.most)) K.due;
         }
 
-    release_step : p.fetcher ≡ At Release c → serving_of p.phase ≡ On a → (w : Word)
+    release_step : p.fetcher ≡ At Release c → serving_of p.phase ≡ Some a → (w : Option ℕ)
         → Kept (fetch_follows n p a end Release c w).state (cond (is_on (serving_of (fetch_follows n p a end Release c w).state.phase)) (fetched_one l) l)
     unfolding fetch_follows fetch_release fetched
-    release_step e f Outside = fails _
-    release_step e f (Value v) = go (is_set flagged c.high)
+    release_step e f None = fails _
+    release_step e f (Some v) = go (is_set flagged c.high)
       where
         go : (b : Bool)
             → Kept
@@ -217,58 +211,58 @@ module _ (p : Port) (l : Ledger) (K : Kept p l) where
         go false = rw f (fetched_kept e Idle (λ k m. tt))
 
   -- a step of the fetch side, by what it finds
-  fetch_case : (n : ℕ) (m : Memory) (x : Side) (s : Serving) → p.fetcher ≡ x → serving_of p.phase ≡ s
+  fetch_case : (n : ℕ) (m : Memory) (x : Side) (s : Option Area) → p.fetcher ≡ x → serving_of p.phase ≡ s
       → Kept (port_step n p Command (fetch_asks n) (fetch_follows n p) (fetch_tailed p) m x s).state
       (cond (releasing x && (is_on s && is_on (serving_of (port_step n p Command (fetch_asks n) (fetch_follows n p) (fetch_tailed p) m x s).state.phase)))
       (fetched_one l) l)
   unfolding port_step
-  fetch_case n m x Off e f = never (releasing x) (with_fetcher p Idle) _ (fetch_to Idle tt)
-  fetch_case n m Idle (On a) e f = fetch_to Idle tt
-  fetch_case n m (At High c) (On a) e f = high_step n a (usable n (length m)) c (found n m (fetch_asks n a High c))
-  fetch_case n m (At Low c) (On a) e f = low_step n a (usable n (length m)) c (found n m (fetch_asks n a Low c))
-  fetch_case n m (At Length c) (On a) e f = length_step n a (usable n (length m)) c (found n m (fetch_asks n a Length c))
-  fetch_case n m (At Header c) (On a) e f = header_step n a (usable n (length m)) c (found n m (fetch_asks n a Header c))
-  fetch_case n m (At Text c) (On a) e f = text_step n a (usable n (length m)) c e (found n m (fetch_asks n a Text c))
-  fetch_case n m (At Release c) (On a) e f = release_step n a (usable n (length m)) c e f (found n m (fetch_asks n a Release c))
-  fetch_case n m (Tail s c) (On a) e f = tail_step n a (usable n (length m)) c (tail_follows a s (found n m (tail_asks n a Command s c)))
+  fetch_case n m x None e f = never (releasing x) (with_fetcher p Idle) _ (fetch_to Idle tt)
+  fetch_case n m Idle (Some a) e f = fetch_to Idle tt
+  fetch_case n m (At High c) (Some a) e f = high_step n a (usable n (length m)) c (found n m (fetch_asks n a High c))
+  fetch_case n m (At Low c) (Some a) e f = low_step n a (usable n (length m)) c (found n m (fetch_asks n a Low c))
+  fetch_case n m (At Length c) (Some a) e f = length_step n a (usable n (length m)) c (found n m (fetch_asks n a Length c))
+  fetch_case n m (At Header c) (Some a) e f = header_step n a (usable n (length m)) c (found n m (fetch_asks n a Header c))
+  fetch_case n m (At Text c) (Some a) e f = text_step n a (usable n (length m)) c e (found n m (fetch_asks n a Text c))
+  fetch_case n m (At Release c) (Some a) e f = release_step n a (usable n (length m)) c e f (found n m (fetch_asks n a Release c))
+  fetch_case n m (Tail s c) (Some a) e f = tail_step n a (usable n (length m)) c (tail_follows a s (found n m (tail_asks n a Command s c)))
 
   ---------------------------------------------------------------- the post side
 
   module _ (n : ℕ) (a : Area) (end : ℕ) (c : Cursor) where
-    high_post : Due p.asked.answers p.counts.unanswered (At High c) → (w : Word) → Kept (post_follows n p a end High c w).state l
+    high_post : Due p.asked.answers p.counts.unanswered (At High c) → (w : Option ℕ) → Kept (post_follows n p a end High c w).state l
     unfolding post_follows post_high
-    high_post d Outside = fails _
-    high_post d (Value v) = either (is_set owner v) _ _ (post_to _ d) (post_to _ tt)
+    high_post d None = fails _
+    high_post d (Some v) = either (is_set owner v) _ _ (post_to _ d) (post_to _ tt)
 
-    low_post : Due p.asked.answers p.counts.unanswered (At Low c) → (w : Word) → Kept (post_follows n p a end Low c w).state l
+    low_post : Due p.asked.answers p.counts.unanswered (At Low c) → (w : Option ℕ) → Kept (post_follows n p a end Low c w).state l
     unfolding post_follows post_low
-    low_post d Outside = fails _
-    low_post d (Value v) =
+    low_post d None = fails _
+    low_post d (Some v) =
         either (leb 4 (address_of n v c.high) && leb (address_of n v c.high + 2 * words_of c.size) end)
         (onward (with_poster p (At Length (with_envelope c (address_of n v c.high - 4)))))
         (fail p EnvelopeWrite)
         (post_to _ d) (fails _)
 
-    length_post : Due p.asked.answers p.counts.unanswered (At Length c) → (w : Word) → Kept (post_follows n p a end Length c w).state l
+    length_post : Due p.asked.answers p.counts.unanswered (At Length c) → (w : Option ℕ) → Kept (post_follows n p a end Length c w).state l
     unfolding post_follows
-    length_post d Outside = fails _
-    length_post d (Value v) = post_to _ d
+    length_post d None = fails _
+    length_post d (Some v) = post_to _ d
 
-    header_post : Due p.asked.answers p.counts.unanswered (At Header c) → (w : Word) → Kept (post_follows n p a end Header c w).state l
+    header_post : Due p.asked.answers p.counts.unanswered (At Header c) → (w : Option ℕ) → Kept (post_follows n p a end Header c w).state l
     unfolding post_follows
-    header_post d Outside = fails _
-    header_post d (Value v) = post_to _ (text_due c 0 p.asked.answers p.counts.unanswered d)
+    header_post d None = fails _
+    header_post d (Some v) = post_to _ (text_due c 0 p.asked.answers p.counts.unanswered d)
 
-    text_post : Due p.asked.answers p.counts.unanswered (At Text c) → (w : Word) → Kept (post_follows n p a end Text c w).state l
+    text_post : Due p.asked.answers p.counts.unanswered (At Text c) → (w : Option ℕ) → Kept (post_follows n p a end Text c w).state l
     unfolding post_follows
-    text_post d Outside = fails _
-    text_post d (Value v) = post_to _ (text_due c (c.at + 1) p.asked.answers p.counts.unanswered d)
+    text_post d None = fails _
+    text_post d (Some v) = post_to _ (text_due c (c.at + 1) p.asked.answers p.counts.unanswered d)
 
     tail_post : (x : TailEnd) → Kept (post_tailed p c x).state l
     unfolding post_tailed
-    tail_post Onward = post_to _ tt
-    tail_post (Closed i) = post_to _ tt
-    tail_post (Broken x) = fails x
+    tail_post (Ok None) = post_to _ tt
+    tail_post (Ok (Some i)) = post_to _ tt
+    tail_post (Err x) = fails x
 
     -- the release: an answer closes a command and grants what it carries
     granted_sum : (b : Bool) (o u g k : ℕ) → (b ≡ true → 1 ≤ u) → o + u + g ≡ k → cond b (left_of o) o + cond b (u - 1) u + (g + cond b (carried_of o) 0) ≡ k
@@ -290,11 +284,11 @@ module _ (p : Port) (l : Ledger) (K : Kept p l) where
           due = t _ _;
         }
 
-    release_post : Due p.asked.answers p.counts.unanswered (At Release c) → serving_of p.phase ≡ On a → (w : Word)
+    release_post : Due p.asked.answers p.counts.unanswered (At Release c) → serving_of p.phase ≡ Some a → (w : Option ℕ)
         → Kept (post_follows n p a end Release c w).state (cond (is_on (serving_of (post_follows n p a end Release c w).state.phase)) (granted_by p l) l)
     unfolding post_follows post_release posted
-    release_post d f Outside = fails _
-    release_post d f (Value v) = go (is_set flagged c.high)
+    release_post d f None = fails _
+    release_post d f (Some v) = go (is_set flagged c.high)
       where
         go : (b : Bool)
             → Kept
@@ -308,20 +302,20 @@ module _ (p : Port) (l : Ledger) (K : Kept p l) where
         go true = rw f (posted_kept d (Tail (tail_start a Response) c) (λ b u. tt))
         go false = rw f (posted_kept d Idle (λ b u. tt))
 
-  post_case : (n : ℕ) (m : Memory) (x : Side) (s : Serving) → Due p.asked.answers p.counts.unanswered x → serving_of p.phase ≡ s
+  post_case : (n : ℕ) (m : Memory) (x : Side) (s : Option Area) → Due p.asked.answers p.counts.unanswered x → serving_of p.phase ≡ s
       → Kept (port_step n p Response (post_asks n p) (post_follows n p) (post_tailed p) m x s).state
       (cond (releasing x && (is_on s && is_on (serving_of (port_step n p Response (post_asks n p) (post_follows n p) (post_tailed p) m x s).state.phase)))
       (granted_by p l) l)
   unfolding port_step
-  post_case n m x Off d f = never (releasing x) (with_poster p Idle) _ (post_to Idle tt)
-  post_case n m Idle (On a) d f = post_to Idle tt
-  post_case n m (At High c) (On a) d f = high_post n a (usable n (length m)) c d (found n m (post_asks n p a High c))
-  post_case n m (At Low c) (On a) d f = low_post n a (usable n (length m)) c d (found n m (post_asks n p a Low c))
-  post_case n m (At Length c) (On a) d f = length_post n a (usable n (length m)) c d (found n m (post_asks n p a Length c))
-  post_case n m (At Header c) (On a) d f = header_post n a (usable n (length m)) c d (found n m (post_asks n p a Header c))
-  post_case n m (At Text c) (On a) d f = text_post n a (usable n (length m)) c d (found n m (post_asks n p a Text c))
-  post_case n m (At Release c) (On a) d f = release_post n a (usable n (length m)) c d f (found n m (post_asks n p a Release c))
-  post_case n m (Tail s c) (On a) d f = tail_post n a (usable n (length m)) c (tail_follows a s (found n m (tail_asks n a Response s c)))
+  post_case n m x None d f = never (releasing x) (with_poster p Idle) _ (post_to Idle tt)
+  post_case n m Idle (Some a) d f = post_to Idle tt
+  post_case n m (At High c) (Some a) d f = high_post n a (usable n (length m)) c d (found n m (post_asks n p a High c))
+  post_case n m (At Low c) (Some a) d f = low_post n a (usable n (length m)) c d (found n m (post_asks n p a Low c))
+  post_case n m (At Length c) (Some a) d f = length_post n a (usable n (length m)) c d (found n m (post_asks n p a Length c))
+  post_case n m (At Header c) (Some a) d f = header_post n a (usable n (length m)) c d (found n m (post_asks n p a Header c))
+  post_case n m (At Text c) (Some a) d f = text_post n a (usable n (length m)) c d (found n m (post_asks n p a Text c))
+  post_case n m (At Release c) (Some a) d f = release_post n a (usable n (length m)) c d f (found n m (post_asks n p a Release c))
+  post_case n m (Tail s c) (Some a) d f = tail_post n a (usable n (length m)) c (tail_follows a s (found n m (tail_asks n a Response s c)))
 
   ---------------------------------------------------------------- the other calls
 
@@ -344,15 +338,15 @@ module _ (p : Port) (l : Ledger) (K : Kept p l) where
   heard_kept n w m (Running a x) = K
   heard_kept n w m (Failed x) = K
 
-  fetch_begun_lem : (x : Side) (s : Serving) → Kept (port_begun p (fetch_begins p) x s).state l
+  fetch_begun_lem : (x : Side) (s : Option Area) → Kept (port_begun p (fetch_begins p) x s).state l
   unfolding port_begun
-  fetch_begun_lem x Off = K
-  fetch_begun_lem x (On a) = either (is_idle x) _ _ (record { sum = K.sum; some = K.some; most = K.most; ahead = tt; due = K.due }) K
+  fetch_begun_lem x None = K
+  fetch_begun_lem x (Some a) = either (is_idle x) _ _ (record { sum = K.sum; some = K.some; most = K.most; ahead = tt; due = K.due }) K
 
-  post_begun_lem : (y : Asked) (t : List ℕ) (x : Side) (s : Serving) → Kept (port_begun p (post_begins p y t) x s).state l
+  post_begun_lem : (y : Asked) (t : List ℕ) (x : Side) (s : Option Area) → Kept (port_begun p (post_begins p y t) x s).state l
   unfolding port_begun
-  post_begun_lem y t x Off = K
-  post_begun_lem y t x (On a) = either (is_idle x) _ _ (either (leb (length t) 60) _ _ (open_one (y.answers && eqb p.counts.unanswered 0) refl) K) K
+  post_begun_lem y t x None = K
+  post_begun_lem y t x (Some a) = either (is_idle x) _ _ (either (leb (length t) 60) _ _ (open_one (y.answers && eqb p.counts.unanswered 0) refl) K) K
     where
       has_one : (b : Bool) (u : ℕ) → (b && eqb u 0) ≡ false → b ≡ true → 1 ≤ u
       has_one true u e h = omega (arith, eqb-false u 0 e)
@@ -398,8 +392,8 @@ out_is p l K =
       | inr h ↦ le-ltb (p.counts.owed + p.counts.unanswered) p.made.limit (omega (arith, h, K.sum)) ∙ sym (le-ltb l.fetched l.granted h)
     ]
 
-comes_10 : (n : ℕ) (p : Port) (m : Memory) (a : Area) (c : Cursor) (v : ℕ) → serving_of p.phase ≡ On a → p.fetcher ≡ At Header c
-    → found n m (fetch_asks n a Header c) ≡ Value v → fault_of (of message_type v) (of connection v) c.size ≡ Sound
+comes_10 : (n : ℕ) (p : Port) (m : Memory) (a : Area) (c : Cursor) (v : ℕ) → serving_of p.phase ≡ Some a → p.fetcher ≡ At Header c
+    → found n m (fetch_asks n a Header c) ≡ Some v → fault_of (of message_type v) (of connection v) c.size ≡ (Ok tt)
     → leb (c.envelope + 4 + 2 * words_of c.size) (usable n (length m)) ≡ true → credit_out p ≡ false → (fetch_step n p m).told ≡ told (fatal 10) false
 unfolding fetch_step port_step fetch_follows fetch_header
 comes_10 n p m a c v s e f g i o = rw (s, e, f, g, i, o)
@@ -424,7 +418,7 @@ module _ (p : Port) (l : Ledger) (K : Kept p l) where
 
   module _ (n : ℕ) (a : Area) (end : ℕ) (c : Cursor) where
     judged_10 : (k o s : Bool)
-        → Tells Used (header_sound p end c (cond k (cond o (cond s Sound (Unsound Incompatible)) (Unsound InvalidConnection)) (Unsound Incompatible)))
+        → Tells Used (header_sound p end c (cond k (cond o (cond s (Ok tt) (Err Incompatible)) (Err InvalidConnection)) (Err Incompatible)))
     judged_10 true true true =
         tells_either Used (leb (c.envelope + 4 + 2 * words_of c.size) end)
         (cond (credit_out p) (onward (with_fetcher p (text_or_release c 0))) (fail p CreditLimit))
@@ -439,43 +433,43 @@ module _ (p : Port) (l : Ledger) (K : Kept p l) where
     judged_10 true false s = λ e. absurd (omega (arith, e))
     judged_10 false o s = λ e. absurd (omega (arith, e))
 
-    found_10 : (s : _) (w : Word) → Tells Used (fetch_follows n p a end s c w)
+    found_10 : (s : _) (w : Option ℕ) → Tells Used (fetch_follows n p a end s c w)
     unfolding fetch_follows fetch_high fetch_low fetch_header fetch_text fetch_release fault_of
-    found_10 High Outside = λ e. absurd (omega (arith, e))
-    found_10 High (Value v) = tells_either Used (is_set owner v) _ _ (λ e. absurd (omega (arith, e))) (λ e. absurd (omega (arith, e)))
-    found_10 Low Outside = λ e. absurd (omega (arith, e))
-    found_10 Low (Value v) =
+    found_10 High None = λ e. absurd (omega (arith, e))
+    found_10 High (Some v) = tells_either Used (is_set owner v) _ _ (λ e. absurd (omega (arith, e))) (λ e. absurd (omega (arith, e)))
+    found_10 Low None = λ e. absurd (omega (arith, e))
+    found_10 Low (Some v) =
         tells_either Used (leb 4 (address_of n v c.high) && leb (address_of n v c.high) end)
         (onward (with_fetcher p (At Length (with_envelope c (address_of n v c.high - 4)))))
         (fail p EnvelopeRead)
         (λ e. absurd (omega (arith, e))) (λ e. absurd (omega (arith, e)))
-    found_10 Length Outside = λ e. absurd (omega (arith, e))
-    found_10 Length (Value v) = λ e. absurd (omega (arith, e))
-    found_10 Header Outside = λ e. absurd (omega (arith, e))
-    found_10 Header (Value v) = judged_10 (eqb (of message_type v) 0) (eqb (of connection v) 0) (leb c.size 60)
-    found_10 Text Outside = λ e. absurd (omega (arith, e))
-    found_10 Text (Value v) = λ e. absurd (omega (arith, e))
-    found_10 Release Outside = λ e. absurd (omega (arith, e))
-    found_10 Release (Value v) = tells_either Used (is_set flagged c.high) _ _ (λ e. absurd (omega (arith, e))) (λ e. absurd (omega (arith, e)))
+    found_10 Length None = λ e. absurd (omega (arith, e))
+    found_10 Length (Some v) = λ e. absurd (omega (arith, e))
+    found_10 Header None = λ e. absurd (omega (arith, e))
+    found_10 Header (Some v) = judged_10 (eqb (of message_type v) 0) (eqb (of connection v) 0) (leb c.size 60)
+    found_10 Text None = λ e. absurd (omega (arith, e))
+    found_10 Text (Some v) = λ e. absurd (omega (arith, e))
+    found_10 Release None = λ e. absurd (omega (arith, e))
+    found_10 Release (Some v) = tells_either Used (is_set flagged c.high) _ _ (λ e. absurd (omega (arith, e))) (λ e. absurd (omega (arith, e)))
 
-    tail_10 : (s : TailStage) (w : Word) → Tells Used (fetch_tailed p c (tail_follows a s w))
+    tail_10 : (s : TailStage) (w : Option ℕ) → Tells Used (fetch_tailed p c (tail_follows a s w))
     unfolding test_follows mark_follows fetch_tailed
-    tail_10 Test Outside = λ e. absurd (omega (arith, e))
-    tail_10 Test (Value v) = go (is_set owner v)
+    tail_10 Test None = λ e. absurd (omega (arith, e))
+    tail_10 Test (Some v) = go (is_set owner v)
       where
-        go : (b : Bool) → Tells Used (fetch_tailed p c (cond b Onward (Closed false)))
+        go : (b : Bool) → Tells Used (fetch_tailed p c (cond b (Ok None) (Ok (Some false))))
         go true = λ e. absurd (omega (arith, e))
         go false = λ e. absurd (omega (arith, e))
-    tail_10 Mark Outside = λ e. absurd (omega (arith, e))
-    tail_10 Mark (Value v) = λ e. absurd (omega (arith, e))
+    tail_10 Mark None = λ e. absurd (omega (arith, e))
+    tail_10 Mark (Some v) = λ e. absurd (omega (arith, e))
 
-  fetch_10 : (n : ℕ) (m : Memory) (x : Side) (s : Serving)
+  fetch_10 : (n : ℕ) (m : Memory) (x : Side) (s : Option Area)
       → code_of (port_step n p Command (fetch_asks n) (fetch_follows n p) (fetch_tailed p) m x s).told.closing ≡ 10 → Used
   unfolding port_step
-  fetch_10 n m x Off e = absurd (omega (arith, e))
-  fetch_10 n m Idle (On a) e = absurd (omega (arith, e))
-  fetch_10 n m (At s c) (On a) e = found_10 n a (usable n (length m)) c s (found n m (fetch_asks n a s c)) e
-  fetch_10 n m (Tail s c) (On a) e = tail_10 n a (usable n (length m)) c s (found n m (tail_asks n a Command s c)) e
+  fetch_10 n m x None e = absurd (omega (arith, e))
+  fetch_10 n m Idle (Some a) e = absurd (omega (arith, e))
+  fetch_10 n m (At s c) (Some a) e = found_10 n a (usable n (length m)) c s (found n m (fetch_asks n a s c)) e
+  fetch_10 n m (Tail s c) (Some a) e = tail_10 n a (usable n (length m)) c s (found n m (tail_asks n a Command s c)) e
 
   only_10 : (n : ℕ) (m : Memory) → code_of (fetch_step n p m).told.closing ≡ 10 → Used
   unfolding fetch_step
@@ -484,43 +478,43 @@ module _ (p : Port) (l : Ledger) (K : Kept p l) where
 -- a post never
 module _ (p : Port) where
   module _ (n : ℕ) (a : Area) (end : ℕ) (c : Cursor) where
-    posted_10 : (s : _) (w : Word) → Tells ⊥ (post_follows n p a end s c w)
+    posted_10 : (s : _) (w : Option ℕ) → Tells ⊥ (post_follows n p a end s c w)
     unfolding post_follows post_high post_low post_release
-    posted_10 High Outside = λ e. omega (arith, e)
-    posted_10 High (Value v) = tells_either ⊥ (is_set owner v) _ _ (λ e. omega (arith, e)) (λ e. omega (arith, e))
-    posted_10 Low Outside = λ e. omega (arith, e)
-    posted_10 Low (Value v) =
+    posted_10 High None = λ e. omega (arith, e)
+    posted_10 High (Some v) = tells_either ⊥ (is_set owner v) _ _ (λ e. omega (arith, e)) (λ e. omega (arith, e))
+    posted_10 Low None = λ e. omega (arith, e)
+    posted_10 Low (Some v) =
         tells_either ⊥ (leb 4 (address_of n v c.high) && leb (address_of n v c.high + 2 * words_of c.size) end)
         (onward (with_poster p (At Length (with_envelope c (address_of n v c.high - 4)))))
         (fail p EnvelopeWrite)
         (λ e. omega (arith, e)) (λ e. omega (arith, e))
-    posted_10 Length Outside = λ e. omega (arith, e)
-    posted_10 Length (Value v) = λ e. omega (arith, e)
-    posted_10 Header Outside = λ e. omega (arith, e)
-    posted_10 Header (Value v) = λ e. omega (arith, e)
-    posted_10 Text Outside = λ e. omega (arith, e)
-    posted_10 Text (Value v) = λ e. omega (arith, e)
-    posted_10 Release Outside = λ e. omega (arith, e)
-    posted_10 Release (Value v) = tells_either ⊥ (is_set flagged c.high) _ _ (λ e. omega (arith, e)) (λ e. omega (arith, e))
+    posted_10 Length None = λ e. omega (arith, e)
+    posted_10 Length (Some v) = λ e. omega (arith, e)
+    posted_10 Header None = λ e. omega (arith, e)
+    posted_10 Header (Some v) = λ e. omega (arith, e)
+    posted_10 Text None = λ e. omega (arith, e)
+    posted_10 Text (Some v) = λ e. omega (arith, e)
+    posted_10 Release None = λ e. omega (arith, e)
+    posted_10 Release (Some v) = tells_either ⊥ (is_set flagged c.high) _ _ (λ e. omega (arith, e)) (λ e. omega (arith, e))
 
-    post_tail_10 : (s : TailStage) (w : Word) → Tells ⊥ (post_tailed p c (tail_follows a s w))
+    post_tail_10 : (s : TailStage) (w : Option ℕ) → Tells ⊥ (post_tailed p c (tail_follows a s w))
     unfolding test_follows mark_follows post_tailed
-    post_tail_10 Test Outside = λ e. omega (arith, e)
-    post_tail_10 Test (Value v) = go (is_set owner v)
+    post_tail_10 Test None = λ e. omega (arith, e)
+    post_tail_10 Test (Some v) = go (is_set owner v)
       where
-        go : (b : Bool) → Tells ⊥ (post_tailed p c (cond b Onward (Closed false)))
+        go : (b : Bool) → Tells ⊥ (post_tailed p c (cond b (Ok None) (Ok (Some false))))
         go true = λ e. omega (arith, e)
         go false = λ e. omega (arith, e)
-    post_tail_10 Mark Outside = λ e. omega (arith, e)
-    post_tail_10 Mark (Value v) = λ e. omega (arith, e)
+    post_tail_10 Mark None = λ e. omega (arith, e)
+    post_tail_10 Mark (Some v) = λ e. omega (arith, e)
 
-  post_10 : (n : ℕ) (m : Memory) (x : Side) (s : Serving)
+  post_10 : (n : ℕ) (m : Memory) (x : Side) (s : Option Area)
       → code_of (port_step n p Response (post_asks n p) (post_follows n p) (post_tailed p) m x s).told.closing ≡ 10 → ⊥
   unfolding port_step
-  post_10 n m x Off e = omega (arith, e)
-  post_10 n m Idle (On a) e = omega (arith, e)
-  post_10 n m (At s c) (On a) e = posted_10 n a (usable n (length m)) c s (found n m (post_asks n p a s c)) e
-  post_10 n m (Tail s c) (On a) e = post_tail_10 n a (usable n (length m)) c s (found n m (tail_asks n a Response s c)) e
+  post_10 n m x None e = omega (arith, e)
+  post_10 n m Idle (Some a) e = omega (arith, e)
+  post_10 n m (At s c) (Some a) e = posted_10 n a (usable n (length m)) c s (found n m (post_asks n p a s c)) e
+  post_10 n m (Tail s c) (Some a) e = post_tail_10 n a (usable n (length m)) c s (found n m (tail_asks n a Response s c)) e
 
   never_10 : (n : ℕ) (m : Memory) → code_of (post_step n p m).told.closing ≡ 10 → ⊥
   unfolding post_step

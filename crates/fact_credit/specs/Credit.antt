@@ -1,15 +1,13 @@
 -- "no credit out (the first credit and all granted since are used up by fetched commands), 10": over every list of a port's calls, each
 -- with whatever memory it is lent, from creation on.
-use Rattle.std.specs.Prelude.{ℕ, ◌+◌, ◌*◌, ◌≤◌, ◌≡◌, Bool, true, false, cond, ◌&&◌, List, [], ◌∷◌, leb, ltb, length}
+use Rattle.std.specs.Prelude.{ℕ, ◌+◌, ◌*◌, ◌≤◌, ◌≡◌, Bool, true, false, cond, ◌&&◌, List, [], ◌∷◌, leb, ltb, length, None, Ok, Option, Some}
 use Rattle.base_words.specs.Fields.{of, connection, message_type}
 use Rattle.base_words.specs.Words.{address_bits}
 use Rattle.base_texts.specs.Texts.{words_of}
 use Rattle.base_memory.specs.Memory.{Memory, usable}
 use Rattle.base_memory.specs.OneWord.{found}
-use Rattle.base_memory.specs.declared.Word.TheVariants.{Value}
 use Rattle.base_answers.specs.Told.{Closing, told, going, done, refused, fatal}
 use Rattle.base_rules.specs.Rules.{fault_of}
-use Rattle.base_rules.specs.declared.Fault.TheVariants.{Sound}
 use Rattle.base_area.specs.declared.Area.{Area}
 use Rattle.base_side.specs.declared.Cursor.{Cursor}
 use Rattle.port_state.specs.State.{serving_of}
@@ -18,8 +16,6 @@ use Rattle.port_state.specs.Fetch.{credit_out, fetch_asks, fetch_step}
 use Rattle.port_state.specs.Post.{credits_of, post_step}
 use Rattle.port_state.specs.Calls.{Call, writes_ip, writes_sa, begins_fetch, steps_fetch, begins_post, steps_post, after, played}
 use Rattle.port_state.specs.declared.state.Made.{Made}
-use Rattle.port_state.specs.declared.state.Serving.{Serving}
-use Rattle.port_state.specs.declared.state.Serving.TheVariants.{Off, On}
 use Rattle.port_state.specs.declared.state.Stage.TheVariants.{High, Low, Length, Header, Text, Release}
 use Rattle.port_state.specs.declared.state.Side.{Side}
 use Rattle.port_state.specs.declared.state.Side.TheVariants.{Idle, At, Tail}
@@ -44,9 +40,9 @@ releasing (At Text c) = false
 releasing (At Release c) = true
 releasing (Tail s c) = false
 
-abbrev pub is_on : Serving → Bool
-is_on Off = false
-is_on (On a) = true
+abbrev pub is_on : Option Area → Bool
+is_on None = false
+is_on (Some a) = true
 
 abbrev pub released : Side → Port → Port → Bool
 released x p q = releasing x && (is_on (serving_of p.phase) && is_on (serving_of q.phase))
@@ -82,8 +78,8 @@ pub record Reckoned (n : ℕ) (p : Port) (l : Ledger) : Type 0 where
   -- a credit is out exactly where fewer commands were fetched than credits granted
   pub out : credit_out p ≡ ltb l.fetched l.granted
   -- where none is, a header that is sound in all else gives fatal 10,
-  pub comes : (m : Memory) (a : Area) (c : Cursor) (v : ℕ) → serving_of p.phase ≡ On a → p.fetcher ≡ At Header c → found n m (fetch_asks n a Header c) ≡ Value v
-      → fault_of (of message_type v) (of connection v) c.size ≡ Sound → leb (c.envelope + 4 + 2 * words_of c.size) (usable n (length m)) ≡ true
+  pub comes : (m : Memory) (a : Area) (c : Cursor) (v : ℕ) → serving_of p.phase ≡ Some a → p.fetcher ≡ At Header c → found n m (fetch_asks n a Header c) ≡ Some v
+      → fault_of (of message_type v) (of connection v) c.size ≡ (Ok tt) → leb (c.envelope + 4 + 2 * words_of c.size) (usable n (length m)) ≡ true
       → l.granted ≤ l.fetched → (fetch_step n p m).told ≡ told (fatal 10) false
   -- and nothing else does
   pub only : (m : Memory) → code_of (fetch_step n p m).told.closing ≡ 10 → l.granted ≤ l.fetched

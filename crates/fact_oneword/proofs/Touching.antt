@@ -1,11 +1,11 @@
 -- Every step is one touch and what follows from the word found; so one law on touches serves all sides. Assumes nothing.
+use Rattle.std.specs.Prelude.{None, Option, Some}
 use Prim.Native.Nat.{ℕ}
 use mathlib.Core.Path.{ap₂}
 use mathlib.Core.Bool.{Bool, true, false, cond}
 use lib.ListN.{length}
 use Rattle.base_memory.specs.Memory.{usable}
 use Rattle.base_memory.proofs.OneWordLaws.{left_length, left_other, found_same, left_same}
-use Rattle.base_memory.specs.declared.Word.{Word}
 use Rattle.base_memory.specs.declared.Touch.{Touch}
 use Rattle.base_memory.specs.declared.Touch.TheVariants.{Nothing}
 use Rattle.base_area.specs.Layout.{indicator}
@@ -19,10 +19,8 @@ use Rattle.port_state.specs.Tail.{tail_asks, tail_follows}
 use Rattle.port_state.specs.Side as PortStep
 use Rattle.port_state.specs.Fetch.{fetch_asks, fetch_follows, fetch_tailed, fetch_step}
 use Rattle.port_state.specs.Post.{post_asks, post_follows, post_tailed, post_step}
-use Rattle.port_state.specs.declared.state.Serving.{Serving}
-use Rattle.port_state.specs.declared.state.Serving.TheVariants.{Off, On}
 use Rattle.port_state.specs.declared.state.Stage.{Stage}
-use Rattle.port_state.specs.declared.state.TailEnd.{TailEnd}
+use Rattle.port_state.specs.Tail.{TailEnd}
 use Rattle.port_state.specs.declared.state.Side as PortSide
 use Rattle.port_state.specs.declared.state.Side.TheVariants as P
 use Rattle.port_state.specs.declared.state.Port.{Port}
@@ -38,7 +36,7 @@ use Rattle.host_state.specs.declared.state.Host.{Host}
 use Rattle.fact_oneword.specs.OneStep.{TouchesOnly, port_word, host_word, EveryStep, fetches, posts, sends, takes, clears}
 
 -- a step that is one touch and a function of what it found and of memory's length
-by_touch : (S : Type 0) (n : ℕ) (t : Touch) (f : ℕ → Word → Next S) → TouchesOnly S t (λ m. stepped n m t (f (length m)))
+by_touch : (S : Type 0) (n : ℕ) (t : Touch) (f : ℕ → Option ℕ → Next S) → TouchesOnly S t (λ m. stepped n m t (f (length m)))
 by_touch S n t f =
     record {
       length_kept = λ m. left_length n m t;
@@ -52,16 +50,16 @@ untouched : (S : Type 0) (x : Next S) → TouchesOnly S Nothing (λ m. with_memo
 untouched S x = by_touch S 0 Nothing (λ k w. x)
 
 -- a side of the port, and of the host
-port_side : (n : ℕ) (p : Port) (r : Ring) (asks : Area → Stage → Cursor → Touch) (follows : Area → ℕ → Stage → Cursor → Word → Next Port)
-    (tailed : Cursor → TailEnd → Next Port) (x : PortSide.Side) (s : Serving)
+port_side : (n : ℕ) (p : Port) (r : Ring) (asks : Area → Stage → Cursor → Touch) (follows : Area → ℕ → Stage → Cursor → Option ℕ → Next Port)
+    (tailed : Cursor → TailEnd → Next Port) (x : PortSide.Side) (s : Option Area)
     → TouchesOnly Port (port_word n r asks x s) (λ m. PortStep.port_step n p r asks follows tailed m x s)
 unfolding PortStep.port_step
-port_side n p r asks follows tailed x Off = untouched Port (PortStep.refuse p r 1)
-port_side n p r asks follows tailed P.Idle (On a) = untouched Port (PortStep.refuse p r 12)
-port_side n p r asks follows tailed (P.At s c) (On a) = by_touch Port n (asks a s c) (λ k w. follows a (usable n k) s c w)
-port_side n p r asks follows tailed (P.Tail s c) (On a) = by_touch Port n (tail_asks n a r s c) (λ k w. tailed c (tail_follows a s w))
+port_side n p r asks follows tailed x None = untouched Port (PortStep.refuse p r 1)
+port_side n p r asks follows tailed P.Idle (Some a) = untouched Port (PortStep.refuse p r 12)
+port_side n p r asks follows tailed (P.At s c) (Some a) = by_touch Port n (asks a s c) (λ k w. follows a (usable n k) s c w)
+port_side n p r asks follows tailed (P.Tail s c) (Some a) = by_touch Port n (tail_asks n a r s c) (λ k w. tailed c (tail_follows a s w))
 
-host_side : (n : ℕ) (h : Host) (r : Ring) (asks : HostStage.Stage → Cursor → Touch) (follows : HostStage.Stage → Cursor → Word → Next Host)
+host_side : (n : ℕ) (h : Host) (r : Ring) (asks : HostStage.Stage → Cursor → Touch) (follows : HostStage.Stage → Cursor → Option ℕ → Next Host)
     (x : HostSide.Side) (b : Bool) → TouchesOnly Host (host_word asks x b) (λ m. HostStep.host_step n h r asks follows m x b)
 unfolding HostStep.host_step
 host_side n h r asks follows x false = untouched Host (HostStep.refuse h r 1)

@@ -1,5 +1,5 @@
 -- "One step touches at most one word": for every side of both halves, the word that its stage asks for, and what that means.
-use Rattle.std.specs.Prelude.{ℕ, ◌≡◌, Bool, true, false, cond, List, [], ◌∷◌, length, get_or}
+use Rattle.std.specs.Prelude.{ℕ, ◌≡◌, Bool, true, false, cond, List, [], ◌∷◌, length, get_or, None, Option, Some}
 use Rattle.base_memory.specs.Memory.{Memory}
 use Rattle.base_memory.specs.OneWord.{Touches, Same}
 use Rattle.base_memory.specs.declared.Touch.{Touch}
@@ -14,8 +14,6 @@ use Rattle.port_state.specs.State.{serving_of}
 use Rattle.port_state.specs.Tail.{tail_asks}
 use Rattle.port_state.specs.Fetch.{fetch_asks, fetch_step}
 use Rattle.port_state.specs.Post.{post_asks, post_step}
-use Rattle.port_state.specs.declared.state.Serving.{Serving}
-use Rattle.port_state.specs.declared.state.Serving.TheVariants.{Off, On}
 use Rattle.port_state.specs.declared.state.Stage.{Stage}
 use Rattle.port_state.specs.declared.state.Side as PortSide
 use Rattle.port_state.specs.declared.state.Side.TheVariants as P
@@ -38,11 +36,11 @@ pub record TouchesOnly (S : Type 0) (t : Touch) (step : Memory → Outcome S) : 
   pub writes : (m m' : Memory) → Same t m m' → (j : ℕ) → Touches t j → get_or (step m).memory j 0 ≡ get_or (step m').memory j 0
 
 -- The word that a side of the port asks for at its stage, given what its operation asks; the same of the host.
-abbrev pub port_word : ℕ → Ring → (Area → Stage → Cursor → Touch) → PortSide.Side → Serving → Touch
-port_word n r asks x Off = Nothing
-port_word n r asks P.Idle (On a) = Nothing
-port_word n r asks (P.At s c) (On a) = asks a s c
-port_word n r asks (P.Tail s c) (On a) = tail_asks n a r s c
+abbrev pub port_word : ℕ → Ring → (Area → Stage → Cursor → Touch) → PortSide.Side → Option Area → Touch
+port_word n r asks x None = Nothing
+port_word n r asks P.Idle (Some a) = Nothing
+port_word n r asks (P.At s c) (Some a) = asks a s c
+port_word n r asks (P.Tail s c) (Some a) = tail_asks n a r s c
 
 abbrev pub host_word : (HostStage.Stage → Cursor → Touch) → HostSide.Side → Bool → Touch
 host_word asks x false = Nothing

@@ -1,4 +1,5 @@
 -- A fetch that is stepped alone, stage by stage, tail included. Assumes nothing.
+use Rattle.std.specs.Prelude.{None, Ok, Some}
 use Prim.Native.Nat.{ℕ, ◌+◌, ◌*◌, ◌-◌, ◌<◌, ◌≤◌}
 use mathlib.Core.Path.{◌≡◌, refl, ◌∙◌}
 use mathlib.Core.Bool.{Bool, true, false, cond}
@@ -11,11 +12,9 @@ use Rattle.base_words.specs.Words.{address_of, high_word}
 use Rattle.base_texts.specs.Texts.{zeros, words_of, with_text}
 use Rattle.base_memory.specs.Memory.{Memory, usable, word_in, with_word}
 use Rattle.base_memory.specs.OneWord.{found, left}
-use Rattle.base_memory.specs.declared.Word.TheVariants.{Value}
 use Rattle.base_memory.proofs.Laws.{with_word_length}
 use Rattle.base_answers.specs.Told.{told, carried, going}
 use Rattle.base_rules.specs.Rules.{fault_of}
-use Rattle.base_rules.specs.declared.Fault.TheVariants.{Sound}
 use Rattle.base_area.specs.Layout.{slot_at}
 use Rattle.base_area.specs.declared.Area.{Area}
 use Rattle.base_area.specs.declared.Ring.TheVariants.{Command}
@@ -26,12 +25,10 @@ use Rattle.port_state.specs.Tail.{tail_asks, tail_follows}
 use Rattle.port_state.specs.Fetch.{fetch_asks, fetch_high, fetch_low, credit_out, fetch_header, fetch_text, fetched, fetch_release, fetch_finds, fetch_follows, fetch_tailed, fetch_step, fetch_begun}
 use Rattle.port_state.specs.Side.{text_or_release, port_step, port_begun}
 use Rattle.base_side.specs.declared.Cursor.{Cursor}
-use Rattle.port_state.specs.declared.state.Serving.TheVariants.{On}
 use Rattle.port_state.specs.declared.state.Stage.{Stage}
 use Rattle.port_state.specs.declared.state.Stage.TheVariants.{High, Low, Length, Header, Text, Release}
 use Rattle.port_state.specs.declared.state.TailStage.{TailStage}
 use Rattle.port_state.specs.declared.state.TailStage.TheVariants.{Mark}
-use Rattle.port_state.specs.declared.state.TailEnd.TheVariants.{Onward, Closed}
 use Rattle.port_state.specs.declared.state.Side.TheVariants.{Idle, At, Tail}
 use Rattle.port_state.specs.declared.state.Port.{Port}
 use Rattle.fact_progress.specs.Alone.{out, EndsAfter, goes, text_got, tail_memory, tail_interrupt}
@@ -40,8 +37,8 @@ use Rattle.fact_progress.proofs.Runs.{found_read, found_write, counted, loop}
 use Rattle.fact_progress.proofs.TailRun.{slot_in, rings_kept, released, tail_count, text_in, words_in, head_in, start_in}
 
 -- each stage, its word being found
-module _ (n : ℕ) (p : Port) (a : Area) (runs : serving_of p.phase ≡ On a) where
-  sees : (m : Memory) (s : Stage) (c : Cursor) (w : ℕ) → found n m (fetch_asks n a s c) ≡ Value w
+module _ (n : ℕ) (p : Port) (a : Area) (runs : serving_of p.phase ≡ Some a) where
+  sees : (m : Memory) (s : Stage) (c : Cursor) (w : ℕ) → found n m (fetch_asks n a s c) ≡ Some w
       → fetch_step n (with_fetcher p (At s c)) m
       ≡ (with_memory (fetch_finds n (with_fetcher p (At s c)) a (usable n (length m)) s c w) (left n m (fetch_asks n a s c)))
   unfolding fetch_step fetch_follows port_step
@@ -70,7 +67,7 @@ module _ (n : ℕ) (p : Port) (a : Area) (runs : serving_of p.phase ≡ On a) wh
     get_length i = sees m Length c (word_in m c.envelope) (found_read n m c.envelope (omega arith))
 
     get_header : c.envelope + 4 ≤ usable n (length m)
-        → fault_of (of message_type (word_in m (c.envelope + 2))) (of connection (word_in m (c.envelope + 2))) c.size ≡ Sound
+        → fault_of (of message_type (word_in m (c.envelope + 2))) (of connection (word_in m (c.envelope + 2))) c.size ≡ (Ok tt)
         → c.envelope + 4 + 2 * words_of c.size ≤ usable n (length m)
         → credit_out p ≡ true
         → (fetch_step n (with_fetcher p (At Header c)) m) ≡ out (told going false) (with_fetcher p (text_or_release c 0)) m
@@ -94,12 +91,12 @@ module _ (n : ℕ) (p : Port) (a : Area) (runs : serving_of p.phase ≡ On a) wh
 
   -- the tail's steps, by what they come to
   module _ (c : Cursor) (s : TailStage) (k : Memory) where
-    tail_on : tail_follows a s (found n k (tail_asks n a Command s c)) ≡ Onward
+    tail_on : tail_follows a s (found n k (tail_asks n a Command s c)) ≡ (Ok None)
         → (fetch_step n (with_fetcher p (Tail s c)) k) ≡ out (told going false) (with_fetcher p (Tail Mark c)) (left n k (tail_asks n a Command s c))
     unfolding fetch_step fetch_tailed port_step
     tail_on e = rw (runs, e)
 
-    tail_off : (i : Bool) → tail_follows a s (found n k (tail_asks n a Command s c)) ≡ Closed i
+    tail_off : (i : Bool) → tail_follows a s (found n k (tail_asks n a Command s c)) ≡ Ok (Some i)
         → (fetch_step n (with_fetcher p (Tail s c)) k) ≡ out (carried c.size p.incoming i) (with_fetcher p Idle) (left n k (tail_asks n a Command s c))
     unfolding fetch_step fetch_tailed port_step
     tail_off i e = rw (runs, e)
@@ -149,7 +146,7 @@ module _ (n : ℕ) (p : Port) (a : Area) (m : Memory) (may : MayFetch n p a m) w
   abbrev given : Cursor → Port
   given c = fetched (with_fetcher (port got) (At Release c)) a c
 
-  given_runs : (c : Cursor) → serving_of (given c).phase ≡ On a
+  given_runs : (c : Cursor) → serving_of (given c).phase ≡ Some a
   unfolding fetched
   given_runs c = may.runs
 

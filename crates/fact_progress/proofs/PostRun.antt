@@ -1,4 +1,5 @@
 -- A post that is stepped alone, stage by stage, tail included. Assumes nothing.
+use Rattle.std.specs.Prelude.{None, Ok, Some}
 use Prim.Native.Nat.{ℕ, ◌+◌, ◌*◌, ◌-◌, ◌<◌, ◌≤◌}
 use mathlib.Core.Path.{◌≡◌, refl, ◌∙◌}
 use mathlib.Core.Bool.{Bool, true, false, cond, ◌&&◌}
@@ -12,7 +13,6 @@ use Rattle.base_words.specs.Words.{address_of, high_word, header_word}
 use Rattle.base_texts.specs.Texts.{words_of, word_of, padded}
 use Rattle.base_memory.specs.Memory.{Memory, usable, word_in, with_word}
 use Rattle.base_memory.specs.OneWord.{found, left}
-use Rattle.base_memory.specs.declared.Word.TheVariants.{Value}
 use Rattle.base_memory.proofs.Laws.{with_word_length}
 use Rattle.base_answers.specs.Told.{told, going, done}
 use Rattle.base_area.specs.Layout.{slot_at}
@@ -25,12 +25,10 @@ use Rattle.port_state.specs.Tail.{tail_asks, tail_follows}
 use Rattle.port_state.specs.Post.{credits_of, post_asks, post_high, post_low, posted, post_release, post_finds, post_follows, post_tailed, post_step, post_begun}
 use Rattle.port_state.specs.Side.{text_or_release, port_step, port_begun}
 use Rattle.base_side.specs.declared.Cursor.{Cursor}
-use Rattle.port_state.specs.declared.state.Serving.TheVariants.{On}
 use Rattle.port_state.specs.declared.state.Stage.{Stage}
 use Rattle.port_state.specs.declared.state.Stage.TheVariants.{High, Low, Length, Header, Text, Release}
 use Rattle.port_state.specs.declared.state.TailStage.{TailStage}
 use Rattle.port_state.specs.declared.state.TailStage.TheVariants.{Mark}
-use Rattle.port_state.specs.declared.state.TailEnd.TheVariants.{Onward, Closed}
 use Rattle.port_state.specs.declared.state.Side.TheVariants.{Idle, At, Tail}
 use Rattle.port_state.specs.declared.state.Port.{Port}
 use Rattle.fact_progress.specs.Alone.{out, EndsAfter, goes, Put, written, text_puts, tail_memory, tail_interrupt}
@@ -40,8 +38,8 @@ use Rattle.fact_progress.proofs.Runs.{found_read, found_write, written_length, w
 use Rattle.fact_progress.proofs.TailRun.{slot_in, rings_kept, released, tail_count, text_in, head_in}
 
 -- each stage, its word being found
-module _ (n : ℕ) (p : Port) (a : Area) (runs : serving_of p.phase ≡ On a) where
-  sees : (m : Memory) (s : Stage) (c : Cursor) (w : ℕ) → found n m (post_asks n (with_poster p (At s c)) a s c) ≡ Value w
+module _ (n : ℕ) (p : Port) (a : Area) (runs : serving_of p.phase ≡ Some a) where
+  sees : (m : Memory) (s : Stage) (c : Cursor) (w : ℕ) → found n m (post_asks n (with_poster p (At s c)) a s c) ≡ Some w
       → post_step n (with_poster p (At s c)) m
       ≡ (with_memory (post_finds n (with_poster p (At s c)) a (usable n (length m)) s c w) (left n m (post_asks n (with_poster p (At s c)) a s c)))
   unfolding post_step post_follows port_step
@@ -93,12 +91,12 @@ module _ (n : ℕ) (p : Port) (a : Area) (runs : serving_of p.phase ≡ On a) wh
 
   -- the tail's steps, by what they come to
   module _ (c : Cursor) (s : TailStage) (k : Memory) where
-    tail_on : tail_follows a s (found n k (tail_asks n a Response s c)) ≡ Onward
+    tail_on : tail_follows a s (found n k (tail_asks n a Response s c)) ≡ (Ok None)
         → (post_step n (with_poster p (Tail s c)) k) ≡ out (told going false) (with_poster p (Tail Mark c)) (left n k (tail_asks n a Response s c))
     unfolding post_step post_tailed port_step
     tail_on e = rw (runs, e)
 
-    tail_off : (i : Bool) → tail_follows a s (found n k (tail_asks n a Response s c)) ≡ Closed i
+    tail_off : (i : Bool) → tail_follows a s (found n k (tail_asks n a Response s c)) ≡ Ok (Some i)
         → (post_step n (with_poster p (Tail s c)) k) ≡ out (told done i) (with_poster p Idle) (left n k (tail_asks n a Response s c))
     unfolding post_step post_tailed port_step
     tail_off i e = rw (runs, e)
@@ -147,7 +145,7 @@ module _ (n : ℕ) (p : Port) (a : Area) (answers : Bool) (t : List ℕ) (m : Me
   abbrev given : Cursor → Port
   given c = posted (with_poster port (At Release c)) a c
 
-  given_runs : (c : Cursor) → serving_of (given c).phase ≡ On a
+  given_runs : (c : Cursor) → serving_of (given c).phase ≡ Some a
   unfolding posted
   given_runs c = may.runs
 

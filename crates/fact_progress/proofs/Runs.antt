@@ -1,5 +1,6 @@
 -- What every run stands on: a word inside is found, words written one after the other, steps put together, and the loop over a
 -- text's words, said once for all four operations. Assumes nothing.
+use Rattle.std.specs.Prelude.{Some}
 use Prim.Native.Nat.{ℕ, zero, suc, ◌+◌, ◌<◌, ◌≤◌}
 use mathlib.Core.Path.{◌≡◌, refl, sym, subst, ◌∙◌}
 use mathlib.Core.Bool.{false}
@@ -9,7 +10,6 @@ use lib.ListN.{length}
 use Rattle.base_side.specs.Step.{Outcome}
 use Rattle.base_memory.specs.Memory.{Memory, usable, word_in, with_word}
 use Rattle.base_memory.specs.OneWord.{found}
-use Rattle.base_memory.specs.declared.Word.TheVariants.{Value}
 use Rattle.base_memory.specs.declared.Touch.TheVariants.{Read, Write}
 use Rattle.base_memory.proofs.Laws.{inside_yes, word_at_yes, with_word_length}
 use Rattle.base_answers.specs.Told.{Told, told, going}
@@ -17,10 +17,10 @@ use Rattle.fact_progress.specs.Alone.{out, EndsAfter, goes, Put, written}
 
 -- a word inside is found
 module _ (n : ℕ) (m : Memory) (a : ℕ) (h : a + 2 ≤ usable n (length m)) where
-  pub found_read : found n m (Read a) ≡ Value (word_in m a)
+  pub found_read : found n m (Read a) ≡ Some (word_in m a)
   found_read = sym (word_at_yes n m a (inside_yes n m a (usable n (length m)) refl h))
 
-  pub found_write : (v : ℕ) → found n m (Write a v) ≡ Value v
+  pub found_write : (v : ℕ) → found n m (Write a v) ≡ Some v
   found_write v = rw (← inside_yes n m a (usable n (length m)) refl h)
 
 -- words written

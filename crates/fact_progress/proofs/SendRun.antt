@@ -1,4 +1,5 @@
 -- A send that is stepped alone, stage by stage. Assumes nothing.
+use Rattle.std.specs.Prelude.{Some}
 use Prim.Native.Nat.{ℕ, ◌+◌, ◌*◌, ◌<◌, ◌≤◌}
 use mathlib.Core.Path.{◌≡◌, refl, ◌∙◌}
 use mathlib.Core.Bool.{true, false}
@@ -12,7 +13,6 @@ use Rattle.base_words.specs.Words.{low_word, with_address, high_word}
 use Rattle.base_texts.specs.Texts.{words_of, word_of, padded}
 use Rattle.base_memory.specs.Memory.{Memory, usable, word_in, with_word}
 use Rattle.base_memory.specs.OneWord.{found, left}
-use Rattle.base_memory.specs.declared.Word.TheVariants.{Value}
 use Rattle.base_memory.proofs.Laws.{with_word_length}
 use Rattle.base_answers.specs.Told.{told, going, done}
 use Rattle.base_area.specs.Layout.{slot_at}
@@ -40,7 +40,7 @@ ready_kept h x e = e
 
 -- each stage, its word being found
 module _ (n : ℕ) (h : Host) (ready : is_ready h ≡ true) where
-  sees : (m : Memory) (s : Stage) (c : Cursor) (w : ℕ) → found n m (send_asks n (with_sender h (At s c)) s c) ≡ Value w
+  sees : (m : Memory) (s : Stage) (c : Cursor) (w : ℕ) → found n m (send_asks n (with_sender h (At s c)) s c) ≡ Some w
       → send_step n (with_sender h (At s c)) m
       ≡ (with_memory (send_finds (with_sender h (At s c)) s c w) (left n m (send_asks n (with_sender h (At s c)) s c)))
   unfolding send_step send_follows host_step

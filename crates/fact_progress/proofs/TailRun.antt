@@ -1,4 +1,5 @@
 -- The tail of a fetch or a post, said once over the ring and the side, and a port's rings in memory. Assumes nothing.
+use Rattle.std.specs.Prelude.{None, Ok, Some}
 use Prim.Native.Nat.{ℕ, suc, ◌+◌, ◌*◌, ◌-◌, ◌<◌, ◌≤◌}
 use mathlib.Core.Path.{◌≡◌, refl}
 use mathlib.Core.Bool.{Bool, true, false, cond}
@@ -9,7 +10,6 @@ use Rattle.base_words.specs.Fields.{is_set, owner}
 use Rattle.base_texts.specs.Texts.{words_of}
 use Rattle.base_memory.specs.Memory.{Memory, usable, word_in}
 use Rattle.base_memory.specs.OneWord.{found, left}
-use Rattle.base_memory.specs.declared.Word.TheVariants.{Value}
 use Rattle.base_memory.specs.declared.Touch.TheVariants.{Write}
 use Rattle.base_answers.specs.Told.{Told, told, going}
 use Rattle.base_area.specs.Layout.{slots, base, slot_at, before_of, alone, indicator_back, indicator, has_vector}
@@ -22,7 +22,6 @@ use Rattle.port_state.specs.Tail.{tail_start, tail_asks, test_follows, mark_foll
 use Rattle.base_side.specs.declared.Cursor.{Cursor}
 use Rattle.port_state.specs.declared.state.TailStage.{TailStage}
 use Rattle.port_state.specs.declared.state.TailStage.TheVariants.{Test, Mark}
-use Rattle.port_state.specs.declared.state.TailEnd.TheVariants.{Onward, Closed}
 use Rattle.port_state.specs.declared.state.Port.{Port}
 use Rattle.fact_progress.specs.Alone.{out, EndsAfter, closes, goes, tail_steps, tail_memory, tail_interrupt}
 use Rattle.fact_progress.specs.Progress.{steps_for, RingsIn, with_tail}
@@ -42,7 +41,7 @@ module _ (n : ℕ) (a : Area) (m : Memory) (rings : RingsIn n a m) where
   unfolding indicator
   indicator_is r = rw (le-leb (indicator_back r) (base n a) (omega (arith, (back_le r).1, rings.low)))
 
-  marked : (r : Ring) → found n m (indicator n a r 1) ≡ Value 1
+  marked : (r : Ring) → found n m (indicator n a r 1) ≡ Some 1
   marked r = rw (indicator_is r) (found_write n m (base n a - indicator_back r) (omega (arith, (back_le r).0, (back_le r).1, rings.low, rings.high)) 1)
 
 pub rings_kept : (n : ℕ) (a : Area) (k m : Memory) → length k ≡ length m → RingsIn n a m → RingsIn n a k
@@ -50,9 +49,9 @@ rings_kept n a k m e rings = record { low = rings.low; high = rw e rings.high }
 
 -- the tail, of either side: what its steps do, told by what they find
 module _ (n : ℕ) (a : Area) (r : Ring) (c : Cursor) (step : Port → Memory → Outcome Port) (at : TailStage → Port) (ans : Bool → Told) (end : Port)
-    (on : (s : TailStage) (k : Memory) → tail_follows a s (found n k (tail_asks n a r s c)) ≡ Onward
+    (on : (s : TailStage) (k : Memory) → tail_follows a s (found n k (tail_asks n a r s c)) ≡ (Ok None)
     → step (at s) k ≡ out (told going false) (at Mark) (left n k (tail_asks n a r s c)))
-    (off : (s : TailStage) (k : Memory) (i : Bool) → tail_follows a s (found n k (tail_asks n a r s c)) ≡ Closed i
+    (off : (s : TailStage) (k : Memory) (i : Bool) → tail_follows a s (found n k (tail_asks n a r s c)) ≡ Ok (Some i)
     → step (at s) k ≡ out (ans i) end (left n k (tail_asks n a r s c)))
     (m : Memory) (rings : RingsIn n a m) (index : c.slot < slots a r)
   where
@@ -63,7 +62,7 @@ module _ (n : ℕ) (a : Area) (r : Ring) (c : Cursor) (step : Port → Memory �
     unfolding tail_asks test_follows mark_follows
     mark = off Mark m (has_vector a.first) (rw (marked n a m rings r))
 
-    previous_found : found n m (tail_asks n a r Test c) ≡ Value previous
+    previous_found : found n m (tail_asks n a r Test c) ≡ Some previous
     unfolding tail_asks
     previous_found =
         found_read n m (slot_at n a r (before_of a r c.slot) + 2)

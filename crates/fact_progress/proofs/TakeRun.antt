@@ -1,4 +1,6 @@
 -- A take that is stepped alone, stage by stage. Assumes nothing.
+use Rattle.base_answers.specs.declared.Fatal.{Fatal}
+use Rattle.std.specs.Prelude.{Err, Ok, Result, Some}
 use Prim.Native.Nat.{ℕ, ◌+◌, ◌*◌, ◌<◌, ◌≤◌, min}
 use mathlib.Core.Path.{◌≡◌, refl, ap, ◌∙◌}
 use mathlib.Core.Bool.{Bool, true, false, cond, false≢true}
@@ -12,13 +14,10 @@ use Rattle.base_words.specs.Words.{high_word}
 use Rattle.base_texts.specs.Texts.{zeros, words_of, with_text}
 use Rattle.base_memory.specs.Memory.{Memory, usable, word_in, with_word}
 use Rattle.base_memory.specs.OneWord.{found, left}
-use Rattle.base_memory.specs.declared.Word.TheVariants.{Value}
 use Rattle.base_memory.proofs.Laws.{with_word_length}
 use Rattle.base_answers.specs.Told.{told, carried, going}
 use Rattle.base_answers.specs.declared.Fatal.TheVariants.{InvalidConnection, Incompatible}
 use Rattle.base_rules.specs.Rules.{fault_of}
-use Rattle.base_rules.specs.declared.Fault.{Fault}
-use Rattle.base_rules.specs.declared.Fault.TheVariants.{Sound, Unsound}
 use Rattle.base_area.specs.Layout.{slot_at}
 use Rattle.base_area.specs.declared.Ring.TheVariants.{Response}
 use Rattle.fact_layout.proofs.Rings.{every_layout}
@@ -39,15 +38,15 @@ use Rattle.fact_progress.specs.Progress.{MayTake, TakeEnds, take_envelope, take_
 use Rattle.fact_progress.proofs.Runs.{found_read, found_write, still, counted, loop}
 
 -- a sound envelope has a text of at most 60 bytes
-is_sound : Fault → Bool
-is_sound Sound = true
-is_sound (Unsound x) = false
+is_sound : Result (Unit {0}) Fatal → Bool
+is_sound (Ok tt) = true
+is_sound (Err x) = false
 
-sound_short : (k c s : ℕ) → fault_of k c s ≡ Sound → s ≤ 60
+sound_short : (k c s : ℕ) → fault_of k c s ≡ (Ok tt) → s ≤ 60
 unfolding fault_of is_sound
 sound_short k c s e = leb-true s 60 (go (eqb k 0) (eqb c 0) (leb s 60) (ap is_sound e))
   where
-    go : (x y z : Bool) → is_sound (cond x (cond y (cond z Sound (Unsound Incompatible)) (Unsound InvalidConnection)) (Unsound Incompatible)) ≡ true → z ≡ true
+    go : (x y z : Bool) → is_sound (cond x (cond y (cond z (Ok tt) (Err Incompatible)) (Err InvalidConnection)) (Err Incompatible)) ≡ true → z ≡ true
     go true true true f = refl
     go true true false f = absurd (false≢true f)
     go true false z f = absurd (false≢true f)
@@ -59,7 +58,7 @@ ready_kept h x e = e
 
 -- each stage, its word being found
 module _ (n : ℕ) (h : Host) (ready : is_ready h ≡ true) where
-  sees : (m : Memory) (s : Stage) (c : Cursor) (w : ℕ) → found n m (take_asks n (with_taker h (At s c)) s c) ≡ Value w
+  sees : (m : Memory) (s : Stage) (c : Cursor) (w : ℕ) → found n m (take_asks n (with_taker h (At s c)) s c) ≡ Some w
       → take_step n (with_taker h (At s c)) m
       ≡ (with_memory (take_finds (with_taker h (At s c)) s c w) (left n m (take_asks n (with_taker h (At s c)) s c)))
   unfolding take_step take_follows host_step
@@ -84,7 +83,7 @@ module _ (n : ℕ) (h : Host) (ready : is_ready h ≡ true) where
     get_length i = sees m Length c (word_in m envelope) (found_read n m envelope (omega arith))
 
     get_header : envelope + 4 ≤ usable n (length m)
-        → fault_of (of message_type (word_in m (envelope + 2))) (of connection (word_in m (envelope + 2))) c.size ≡ Sound
+        → fault_of (of message_type (word_in m (envelope + 2))) (of connection (word_in m (envelope + 2))) c.size ≡ (Ok tt)
         → h.counts.account + of credits (word_in m (envelope + 2)) ≤ 255
         → take_step n (with_taker h (At Header c)) m
         ≡ out (told going false) (with_taker (with_incoming h h.incoming (of credits (word_in m (envelope + 2)))) (text_or_closing c 0)) m

@@ -1,7 +1,7 @@
 -- "Operations end and make progress": from a free slot and a credit a send ends, after exactly as many steps as document 01 lists
 -- for its text, with the envelope, the descriptor and the account that it names; likewise fetch, post and take, tails included.
 -- Nothing here assumes that a ring has more than one slot.
-use Rattle.std.specs.Prelude.{ℕ, ◌+◌, ◌*◌, ◌-◌, ◌<◌, ◌≤◌, min, ◌≡◌, Bool, true, false, cond, List, [], ◌∷◌, ◌++◌, length}
+use Rattle.std.specs.Prelude.{ℕ, ◌+◌, ◌*◌, ◌-◌, ◌<◌, ◌≤◌, min, ◌≡◌, Bool, true, false, cond, List, [], ◌∷◌, ◌++◌, length, Ok, Some}
 use Rattle.base_side.specs.Place.{start_of}
 use Rattle.base_words.specs.Fields.{of, is_set, owner, flagged, connection, message_type, credits}
 use Rattle.base_words.specs.Words.{address_of, low_word, with_address, high_word, header_word}
@@ -9,7 +9,6 @@ use Rattle.base_texts.specs.Texts.{zeros, words_of, padded}
 use Rattle.base_memory.specs.Memory.{Memory, usable, word_in}
 use Rattle.base_answers.specs.Told.{told, carried, going, done}
 use Rattle.base_rules.specs.Rules.{fault_of}
-use Rattle.base_rules.specs.declared.Fault.TheVariants.{Sound}
 use Rattle.base_area.specs.Layout.{slots, base, slot_at, rings_end, next_of, envelope_at}
 use Rattle.base_area.specs.Setup.{fits}
 use Rattle.base_area.specs.declared.Area.{Area}
@@ -18,7 +17,6 @@ use Rattle.base_area.specs.declared.Ring.TheVariants.{Command, Response}
 use Rattle.port_state.specs.State as PortState
 use Rattle.port_state.specs.Fetch.{credit_out, fetch_step, fetch_begun}
 use Rattle.port_state.specs.Post.{credits_of, posted, post_step, post_begun}
-use Rattle.port_state.specs.declared.state.Serving.TheVariants.{On}
 use Rattle.port_state.specs.declared.state.Side.TheVariants as P
 use Rattle.port_state.specs.declared.state.Port.{Port}
 use Rattle.host_state.specs.State as HostState
@@ -84,7 +82,7 @@ pub record MayTake (n : ℕ) (h : Host) (m : Memory) : Type 0 where
   pub back : is_set owner (word_in m (slot_at n h.area Response h.counts.take + 2)) ≡ false
   pub sound : fault_of (of message_type (word_in m (envelope_at h.area h.pool Response h.counts.take + 2)))
       (of connection (word_in m (envelope_at h.area h.pool Response h.counts.take + 2)))
-      (word_in m (envelope_at h.area h.pool Response h.counts.take)) ≡ Sound
+      (word_in m (envelope_at h.area h.pool Response h.counts.take)) ≡ (Ok tt)
   pub room : h.counts.account + of credits (word_in m (envelope_at h.area h.pool Response h.counts.take + 2)) ≤ 255
 
 abbrev pub take_envelope : Host → ℕ
@@ -141,7 +139,7 @@ with_tail n f a r i m k = cond f (k + tail_steps n a r i m) k
 ---------------------------------------------------------------- fetch
 
 pub record MayFetch (n : ℕ) (p : Port) (a : Area) (m : Memory) : Type 0 where
-  pub runs : PortState.serving_of p.phase ≡ On a
+  pub runs : PortState.serving_of p.phase ≡ Some a
   pub idle : p.fetcher ≡ P.Idle
   pub index : p.counts.fetch < slots a Command
   pub rings : RingsIn n a m
@@ -150,7 +148,7 @@ pub record MayFetch (n : ℕ) (p : Port) (a : Area) (m : Memory) : Type 0 where
   pub below : text_at n a Command p.counts.fetch m + 2 * words_of (word_in m (text_at n a Command p.counts.fetch m - 4)) ≤ usable n (length m)
   pub sound : fault_of (of message_type (word_in m (text_at n a Command p.counts.fetch m - 4 + 2)))
       (of connection (word_in m (text_at n a Command p.counts.fetch m - 4 + 2)))
-      (word_in m (text_at n a Command p.counts.fetch m - 4)) ≡ Sound
+      (word_in m (text_at n a Command p.counts.fetch m - 4)) ≡ (Ok tt)
   pub credit : credit_out p ≡ true
 
 abbrev pub fetch_envelope : ℕ → Port → Area → Memory → ℕ
@@ -186,7 +184,7 @@ pub record FetchEnds (n : ℕ) (p : Port) (a : Area) (m : Memory) : Type 0 where
 
 -- A post of text t, as an answer or unsolicited: an answer needs an open command.
 pub record MayPost (n : ℕ) (p : Port) (a : Area) (answers : Bool) (t : List ℕ) (m : Memory) : Type 0 where
-  pub runs : PortState.serving_of p.phase ≡ On a
+  pub runs : PortState.serving_of p.phase ≡ Some a
   pub idle : p.poster ≡ P.Idle
   pub short : length t ≤ 60
   pub fetched : answers ≡ true → 1 ≤ p.counts.unanswered

@@ -17,7 +17,7 @@ use Rattle.fact_plain.specs.Plain.{start}
 use Rattle.program_scheduling.specs.Machine.{Stand, bytes_of, oldest, after_send, after_take, after_fetch, after_answer, send_turn, take_turn, fetch_turn, answer_turn}
 use Rattle.program_scheduling.specs.Drive.{side_of, turn_of, turns_of, byte_turns, bytes_turns}
 use Rattle.program_scheduling.specs.Opening.{unmet, settled, started_by}
-use Rattle.program_scheduling.specs.Schedule.{command_of, response_of, limit_of, zero_bits, takes, ended_at, run_of, Report}
+use Rattle.program_scheduling.specs.Schedule.{command_of, response_of, limit_of, zero_bits, takes, line_of, ended_at, run_of, Report}
 use Rattle.program_scheduling.specs.declared.drive.Side.{Side}
 use Rattle.program_scheduling.specs.declared.drive.Side.TheVariants.{Send, Take, Fetch, Answer}
 use Rattle.program_scheduling.specs.declared.machine.Machine.{Machine}
@@ -149,9 +149,11 @@ module _ (input : List ℕ) (e : takes input ≡ true) where
           bytes = bytes_proper (drop 2 input) (started_by (command_of input) (response_of input) (limit_of input) m);
           promise = promised;
           memory = ap (λ (r : Report). r.memory) run_is ∙ ap (λ (w : World). w.memory) last_is;
-          account = ap (λ (r : Report). r.line.account) run_is ∙ ap (λ (w : World). w.host.counts.account) last_is ∙ sym promised.account;
-          owed = ap (λ (r : Report). r.line.owed) run_is ∙ ap (λ (w : World). w.port.counts.owed) last_is ∙ sym promised.owed;
-          quiet = ap (λ (r : Report). r.line.sa) run_is ∙ ap (λ (w : World). sa_of w.port) last_is ∙ promised.quiet;
+          line = line_of last.machine;
+          printed = ap (λ (r : Report). r.line) run_is;
+          account = ap (λ (w : World). w.host.counts.account) last_is ∙ sym promised.account;
+          owed = ap (λ (w : World). w.port.counts.owed) last_is ∙ sym promised.owed;
+          quiet = ap (λ (w : World). sa_of w.port) last_is ∙ promised.quiet;
         }
 
 pub every_schedule : EverySchedule

@@ -1,5 +1,5 @@
 -- A schedule as a list of calls, and what demand 3 then promises of the line that is printed.
-use Rattle.std.specs.Prelude.{ℕ, zero, suc, ◌/◌, ◌%◌, ◌<◌, ◌≡◌, true, false, List, [], ◌∷◌, ◌++◌, length, get_or, drop}
+use Rattle.std.specs.Prelude.{ℕ, zero, suc, ◌/◌, ◌%◌, ◌<◌, ◌≡◌, true, false, List, [], ◌∷◌, ◌++◌, length, get_or, drop, Some}
 use Rattle.base_words.specs.Words.{address_bits}
 use Rattle.base_memory.specs.Memory.{Memory}
 use Rattle.host_state.specs.declared.state.Beginning.{Beginning}
@@ -9,6 +9,7 @@ use Rattle.program_scheduling.specs.Machine.{Stand, bytes_of, oldest}
 use Rattle.program_scheduling.specs.Drive.{side_of, turn_of, byte_turns}
 use Rattle.program_scheduling.specs.Opening.{asked, unmet, started_by}
 use Rattle.program_scheduling.specs.Schedule.{command_of, response_of, limit_of, takes, run_of}
+use Rattle.program_scheduling.specs.declared.Line.{Line}
 use Rattle.program_scheduling.specs.declared.drive.Side.{Side}
 use Rattle.program_scheduling.specs.declared.drive.Side.TheVariants.{Send, Take, Fetch, Answer}
 use Rattle.program_scheduling.specs.declared.machine.Machine.{Machine}
@@ -55,16 +56,18 @@ bounds input m = bounds_of (settings_of input) (halves_of input m)
 abbrev pub at_rest : Bounds → Play
 at_rest b = game (start b) idle idle idle idle
 
--- An input's run is one of demand 3's: it starts where those start, its calls are theirs, and it has their promise; so what is
--- printed for account, owed and SA is what the plain machine has.
+-- An input's run is one of demand 3's: it starts where those start, its calls are theirs, and it has their promise; a line is printed,
+-- and what it says for account, owed and SA is what the plain machine has.
 pub record Scheduled (input : List ℕ) (m : Memory) : Type 0 where
   pub starts : Start (settings_of input) (halves_of input m) (way_of input m) [] 2048
   pub bytes : AllProper (calls_of input m)
   pub promise : Promise (act address_bits) (site_of (settings_of input) 2048) (bounds input m) (calls_of input m) (opening_of input m) (at_rest (bounds input m))
   pub memory : (run_of input m).memory ≡ (final (act address_bits) (calls_of input m) (opening_of input m)).memory
-  pub account : (run_of input m).line.account ≡ (reckoned (act address_bits) (bounds input m) (calls_of input m) (opening_of input m) (at_rest (bounds input m))).account
-  pub owed : (run_of input m).line.owed ≡ (reckoned (act address_bits) (bounds input m) (calls_of input m) (opening_of input m) (at_rest (bounds input m))).owed
-  pub quiet : (run_of input m).line.sa ≡ 0
+  pub line : Line
+  pub printed : (run_of input m).line ≡ Some line
+  pub account : line.account ≡ (reckoned (act address_bits) (bounds input m) (calls_of input m) (opening_of input m) (at_rest (bounds input m))).account
+  pub owed : line.owed ≡ (reckoned (act address_bits) (bounds input m) (calls_of input m) (opening_of input m) (at_rest (bounds input m))).owed
+  pub quiet : line.sa ≡ 0
 
 -- Every input that is accepted, over any 32 KiB.
 abbrev pub EverySchedule : Type 0

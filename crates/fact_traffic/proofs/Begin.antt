@@ -1,4 +1,5 @@
 -- A run starts where handshake, early calls and an accepted setup lead. Assumes nothing.
+use Rattle.std.specs.Prelude.{None, Option, Some}
 use Prim.Native.Nat.{ℕ, zero, suc, ◌+◌, ◌-◌, ◌<◌, ◌≤◌}
 use mathlib.Core.Path.{◌≡◌, refl, sym, ap, subst, ◌∙◌}
 use mathlib.Core.Bool.{Bool, true, false, cond, ◌&&◌, false≢true}
@@ -14,8 +15,6 @@ use Rattle.base_words.specs.Words.{go_word}
 use Rattle.base_texts.specs.Texts.{zeros, padded}
 use Rattle.base_memory.specs.Memory.{Memory, usable, lies, inside, with_word, cleared}
 use Rattle.base_memory.specs.OneWord.{found, left}
-use Rattle.base_memory.specs.declared.Word.{Word}
-use Rattle.base_memory.specs.declared.Word.TheVariants.{Value, Outside}
 use Rattle.base_memory.specs.declared.Touch.TheVariants.{Read}
 use Rattle.base_memory.proofs.Laws.{usable_le, inside_yes, word_at_yes, cleared_length, cleared_inside}
 use Rattle.base_area.specs.Layout.{base, slot_at, rings_end, indicator_back, indicator, lead, area_lies, area_cleared}
@@ -54,7 +53,7 @@ use Rattle.fact_traffic.specs.Traffic.{AllProper}
 
 -- the word at a place of a cleared area is 0
 pub zero_word : (n : ℕ) (m : Memory) (a : Area) (q : ℕ) → area_lies n m a ≡ true → base n a ≤ q → q + 2 ≤ rings_end n a
-    → found n (area_cleared n m a) (Read q) ≡ Value 0
+    → found n (area_cleared n m a) (Read q) ≡ Some 0
 unfolding area_lies area_cleared lies
 zero_word n m a q e lo hi =
     let s = split (leb (lead a) (base n a)) (leb (base n a - lead a) (rings_end n a) && leb (rings_end n a) (usable n (length m))) e in
@@ -67,7 +66,7 @@ zero_word n m a q e lo hi =
     let b₁ : get_or (cleared n m (base n a - lead a) (rings_end n a)) (q + 1) 0 ≡ 0 = cleared_inside n m (base n a - lead a) (rings_end n a) s.1 k v (q + 1) (omega arith) (omega arith) in
     rw s.0
     (sym (word_at_yes n (cleared n m (base n a - lead a) (rings_end n a)) q (inside_yes n (cleared n m (base n a - lead a) (rings_end n a)) q (usable n (length m)) (ap (usable n) (sym size)) (omega arith)))
-    ∙ ap Value (rw (b₀, b₁) refl))
+    ∙ ap Some (rw (b₀, b₁) refl))
   where
     split : (x y : Bool) → (x && y) ≡ true → (x ≡ true) × (y ≡ true)
     split true y e = (refl, e)
@@ -145,9 +144,9 @@ late_off : (g : Host) → g.shake ≡ Finished → (time_up g).state ≡ g
 unfolding time_up
 late_off g e = ap (λ (y : Shake). (late_by g y).state) e
 
-clear_state : (g : Host) (w : Word) → (clear_follows g w).state ≡ g
-clear_state g Outside = refl
-clear_state g (Value v) = refl
+clear_state : (g : Host) (w : Option ℕ) → (clear_follows g w).state ≡ g
+clear_state g None = refl
+clear_state g (Some v) = refl
 
 clear_off : (n : ℕ) (g : Host) (r : Ring) (k : Memory) → g.shake ≡ Finished
     → indicator_cleared n g r k ≡ stepped n k (indicator n g.area r 0) (clear_follows g)
@@ -198,7 +197,7 @@ pub record Polling (a : Area) (made : Made) (m : Memory) (h : Host) (w : World) 
   pub post : PollPost w.port text w.port.poster
 
 -- what a poll's step comes to
-fetch_poll : (n : ℕ) (p : Port) (a : Area) (go : ℕ) (m : Memory) (c : Cursor) → p.phase ≡ Running a go → c.slot ≡ 0 → found n m (Read (slot_at n a Command 0 + 2)) ≡ Value 0
+fetch_poll : (n : ℕ) (p : Port) (a : Area) (go : ℕ) (m : Memory) (c : Cursor) → p.phase ≡ Running a go → c.slot ≡ 0 → found n m (Read (slot_at n a Command 0 + 2)) ≡ Some 0
     → fetch_step n (PortState.with_fetcher p (Fetching S.High c)) m ≡ with_memory (PortStep.refuse (PortState.with_fetcher p (Fetching S.High c)) Command 7) m
 unfolding fetch_step fetch_follows fetch_asks fetch_high port_step
 fetch_poll n p a go m c r s f = rw (r, s, f)
@@ -208,7 +207,7 @@ fetch_none_lem : (n : ℕ) (p : Port) (a : Area) (go : ℕ) (m : Memory) → p.p
 unfolding fetch_step port_step
 fetch_none_lem n p a go m r = rw r
 
-post_poll : (n : ℕ) (p : Port) (a : Area) (go : ℕ) (m : Memory) (c : Cursor) → p.phase ≡ Running a go → c.slot ≡ 0 → found n m (Read (slot_at n a Response 0 + 2)) ≡ Value 0
+post_poll : (n : ℕ) (p : Port) (a : Area) (go : ℕ) (m : Memory) (c : Cursor) → p.phase ≡ Running a go → c.slot ≡ 0 → found n m (Read (slot_at n a Response 0 + 2)) ≡ Some 0
     → post_step n (PortState.with_poster p (Posting S.High c)) m ≡ with_memory (PortStep.refuse (PortState.with_poster p (Posting S.High c)) Response 8) m
 unfolding post_step post_follows post_asks post_high port_step
 post_poll n p a go m c r s f = rw (r, s, f)
@@ -228,7 +227,7 @@ begun_post : (p : Port) (q : Poster) (k : Bool) (t : List ℕ) (a : Area) (go : 
 unfolding post_begun port_begun
 begun_post p q k t a go r = rw r
 
-module _ (n : ℕ) (a : Area) (made : Made) (m : Memory) (zero_high : (r : Ring) → found n m (Read (slot_at n a r 0 + 2)) ≡ Value 0)
+module _ (n : ℕ) (a : Area) (made : Made) (m : Memory) (zero_high : (r : Ring) → found n m (Read (slot_at n a r 0 + 2)) ≡ Some 0)
     (zero-marks : (r : Ring) → left n m (indicator n a r 0) ≡ m) where
   -- a host that has finished its handshake and had no setup
   abbrev h : Host
@@ -281,7 +280,7 @@ module _ (n : ℕ) (a : Area) (made : Made) (m : Memory) (zero_high : (r : Ring)
         subst (λ (o : Outcome Port). Polling a made m h (world g o.state o.memory)) (sym (fetch_none_lem n p a go_word k I.phase)) I
     step_fetch_lem (Fetching S.High c) I =
         subst (λ (o : Outcome Port). Polling a made m h (world g o.state o.memory))
-        (sym (fetch_poll n p a go_word k c I.phase I.fetch.0 (subst (λ (y : Memory). found n y (Read (slot_at n a Command 0 + 2)) ≡ Value 0) (sym I.memory) (zero_high Command))))
+        (sym (fetch_poll n p a go_word k c I.phase I.fetch.0 (subst (λ (y : Memory). found n y (Read (slot_at n a Command 0 + 2)) ≡ Some 0) (sym I.memory) (zero_high Command))))
         (kept_by (world g (PortState.with_fetcher p (Fetching S.High c)) k) (PortState.with_fetcher p NoFetch) refl refl refl I tt I.text (post_same (PortState.with_fetcher p (Fetching S.High c)) (PortState.with_fetcher p NoFetch) I.text p.poster refl refl I.post))
     step_fetch_lem (Fetching S.Low c) I = absurd I.fetch
     step_fetch_lem (Fetching S.Length c) I = absurd I.fetch
@@ -295,7 +294,7 @@ module _ (n : ℕ) (a : Area) (made : Made) (m : Memory) (zero_high : (r : Ring)
         subst (λ (o : Outcome Port). Polling a made m h (world g o.state o.memory)) (sym (post_none n p a go_word k I.phase)) I
     step_post_lem (Posting S.High c) I =
         subst (λ (o : Outcome Port). Polling a made m h (world g o.state o.memory))
-        (sym (post_poll n p a go_word k c I.phase I.post.slot (subst (λ (y : Memory). found n y (Read (slot_at n a Response 0 + 2)) ≡ Value 0) (sym I.memory) (zero_high Response))))
+        (sym (post_poll n p a go_word k c I.phase I.post.slot (subst (λ (y : Memory). found n y (Read (slot_at n a Response 0 + 2)) ≡ Some 0) (sym I.memory) (zero_high Response))))
         (kept_by (world g (PortState.with_poster p (Posting S.High c)) k) (PortState.with_poster p NoPost) refl refl refl I (fetch_same (PortState.with_poster p (Posting S.High c)) (PortState.with_poster p NoPost) p.fetcher refl I.fetch) I.text tt)
     step_post_lem (Posting S.Low c) I = absurd I.post
     step_post_lem (Posting S.Length c) I = absurd I.post

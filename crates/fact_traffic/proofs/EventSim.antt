@@ -1,4 +1,5 @@
 -- The calls that begin an operation, clear an indicator, or concern SA. Assumes nothing.
+use Rattle.std.specs.Prelude.{Some}
 use Prim.Native.Nat.{ℕ, ◌≤◌, ◌<◌}
 use mathlib.Core.Path.{◌≡◌, refl, sym, ap, subst, ◌∙◌}
 use mathlib.Core.Bool.{Bool, true, false, cond, ◌&&◌}
@@ -14,7 +15,6 @@ use Rattle.base_words.specs.Fields.{of, is_set, er, fatal_code}
 use Rattle.base_texts.specs.Texts.{zeros, padded}
 use Rattle.base_memory.specs.Memory.{Memory, with_word}
 use Rattle.base_memory.specs.OneWord.{found}
-use Rattle.base_memory.specs.declared.Word.TheVariants.{Value}
 use Rattle.base_memory.specs.declared.Touch.TheVariants.{Write}
 use Rattle.base_answers.specs.Told.{told, done}
 use Rattle.base_area.specs.Layout.{slots, envelope_at}
@@ -295,7 +295,7 @@ module _ (g : Site) (end : ℕ) (b : Bounds) (S' : Setting g end b) (h : Host) (
 
   ---------------------------------------------------------------- indicators and SA
 
-  clear_is : (r : Ring) → h.shake ≡ Finished → h.area ≡ g.area → found g.bits m (Write (addr g (mark_word r)) 0) ≡ Value 0
+  clear_is : (r : Ring) → h.shake ≡ Finished → h.area ≡ g.area → found g.bits m (Write (addr g (mark_word r)) 0) ≡ Some 0
       → indicator_cleared g.bits h r m ≡ record { told = told done false; state = h; memory = with_word g.bits m (addr g (mark_word r)) 0 }
   unfolding indicator_cleared
   clear_is r s a f = rw (s, a, F.indicator_at r 0, f)

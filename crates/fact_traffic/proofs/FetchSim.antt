@@ -1,5 +1,6 @@
 -- The fetch side's step, stage by stage. It takes effect where it writes the high word; its refusal where it looks; its answer is told
 -- then, or at the end of its tail. Assumes nothing.
+use Rattle.std.specs.Prelude.{Ok, Some}
 use Prim.Native.Nat.{ℕ, suc, ◌+◌, ◌*◌, ◌-◌, ◌%◌, ◌<◌, ◌≤◌, min}
 use mathlib.Core.Path.{◌≡◌, refl, sym, ap, ◌∙◌}
 use mathlib.Core.Bool.{Bool, true, false}
@@ -13,12 +14,10 @@ use Rattle.base_words.specs.Words.{address_of, high_word}
 use Rattle.base_texts.specs.Texts.{words_of, with_text}
 use Rattle.base_memory.specs.Memory.{Memory, usable, with_word}
 use Rattle.base_memory.specs.OneWord.{found, left}
-use Rattle.base_memory.specs.declared.Word.TheVariants.{Value}
 use Rattle.base_memory.specs.declared.Touch.{Touch}
 use Rattle.base_memory.specs.declared.Touch.TheVariants.{Read, Write}
 use Rattle.base_answers.specs.Told.{carried}
 use Rattle.base_rules.specs.Rules.{fault_of}
-use Rattle.base_rules.specs.declared.Fault.TheVariants.{Sound}
 use Rattle.base_rules.proofs.Laws.{sound}
 use Rattle.base_area.specs.Layout.{slots, next_of, before_of, envelope_at, has_vector}
 use Rattle.base_area.specs.declared.Area.{Area}
@@ -59,13 +58,13 @@ use Rattle.fact_traffic.proofs.Sim.{Sim, steps_to, later, now, untold, not_yet, 
 use Rattle.fact_traffic.proofs.WordLaws.{high_owner, high_upper, high_lt, address_is, header_type, header_connection}
 
 -- a step of a running port whose touch finds a word
-fetch_at : (n : ℕ) (p : Port) (a : Area) (go : ℕ) (m : Memory) (s : Stage) (c : Cursor) (t : Touch) (v : ℕ) → p.phase ≡ Running a go → fetch_asks n a s c ≡ t → found n m t ≡ Value v
+fetch_at : (n : ℕ) (p : Port) (a : Area) (go : ℕ) (m : Memory) (s : Stage) (c : Cursor) (t : Touch) (v : ℕ) → p.phase ≡ Running a go → fetch_asks n a s c ≡ t → found n m t ≡ Some v
     → fetch_step n (with_fetcher p (Fetching s c)) m ≡ with_memory (fetch_finds n (with_fetcher p (Fetching s c)) a (usable n (length m)) s c v) (left n m t)
 unfolding fetch_step fetch_follows port_step
 fetch_at n p a go m s c t v r e f = rw (r, e, f)
 
-tail_at : (n : ℕ) (p : Port) (a : Area) (go : ℕ) (m : Memory) (s : TailStage) (c : Cursor) (t : Touch) (v : ℕ) → p.phase ≡ Running a go → tail_asks n a Command s c ≡ t → found n m t ≡ Value v
-    → fetch_step n (with_fetcher p (FetchTail s c)) m ≡ with_memory (fetch_tailed (with_fetcher p (FetchTail s c)) c (tail_follows a s (Value v))) (left n m t)
+tail_at : (n : ℕ) (p : Port) (a : Area) (go : ℕ) (m : Memory) (s : TailStage) (c : Cursor) (t : Touch) (v : ℕ) → p.phase ≡ Running a go → tail_asks n a Command s c ≡ t → found n m t ≡ Some v
+    → fetch_step n (with_fetcher p (FetchTail s c)) m ≡ with_memory (fetch_tailed (with_fetcher p (FetchTail s c)) c (tail_follows a s (Some v))) (left n m t)
 unfolding fetch_step port_step
 tail_at n p a go m s c t v r e f = rw (r, e, f)
 
@@ -95,7 +94,7 @@ low_on : (n : ℕ) (p : Port) (m : Memory) (end a e : ℕ) (c : Cursor) (v : ℕ
 unfolding fetch_low
 low_on n p m end a e c v q l u d = rw (q, le-leb 4 a l, le-leb a end u, d)
 
-header_on : (p : Port) (m : Memory) (end : ℕ) (c : Cursor) (v : ℕ) → Sound ≡ fault_of (of message_type v) (of connection v) c.size
+header_on : (p : Port) (m : Memory) (end : ℕ) (c : Cursor) (v : ℕ) → (Ok tt) ≡ fault_of (of message_type v) (of connection v) c.size
     → c.envelope + 4 + 2 * words_of c.size ≤ end → p.counts.owed + p.counts.unanswered < p.made.limit
     → with_memory (fetch_header (with_fetcher p (Fetching S.Header c)) end c v) m ≡ with_memory (onward (with_fetcher p (text_or_release c 0))) m
 unfolding fetch_header
@@ -483,18 +482,18 @@ module _ (g : Site) (end : ℕ) (b : Bounds) (S' : Setting g end b) (h : Host) (
   touch_mark c = F.indicator_at Command 1
 
   test_goes : (c : Cursor) (k : Memory) (v : ℕ) → is_set owner v ≡ true
-      → with_memory (fetch_tailed (with_fetcher p (FetchTail E.Test c)) c (tail_follows g.area E.Test (Value v))) k ≡ with_memory (onward (with_fetcher p (FetchTail E.Mark c))) k
+      → with_memory (fetch_tailed (with_fetcher p (FetchTail E.Test c)) c (tail_follows g.area E.Test (Some v))) k ≡ with_memory (onward (with_fetcher p (FetchTail E.Mark c))) k
   unfolding fetch_tailed test_follows mark_follows
   test_goes c k v e = rw e
 
   test_closes : (c : Cursor) (k : Memory) (v : ℕ) → is_set owner v ≡ false
-      → with_memory (fetch_tailed (with_fetcher p (FetchTail E.Test c)) c (tail_follows g.area E.Test (Value v))) k
+      → with_memory (fetch_tailed (with_fetcher p (FetchTail E.Test c)) c (tail_follows g.area E.Test (Some v))) k
       ≡ with_memory (record { told = carried c.size p.incoming false; state = with_fetcher p NoFetch }) k
   unfolding fetch_tailed test_follows mark_follows
   test_closes c k v e = rw e
 
   mark_closes : (c : Cursor) (k : Memory) (v : ℕ)
-      → with_memory (fetch_tailed (with_fetcher p (FetchTail E.Mark c)) c (tail_follows g.area E.Mark (Value v))) k
+      → with_memory (fetch_tailed (with_fetcher p (FetchTail E.Mark c)) c (tail_follows g.area E.Mark (Some v))) k
       ≡ with_memory (record { told = carried c.size p.incoming (has_vector g.area.first); state = with_fetcher p NoFetch }) k
   unfolding fetch_tailed test_follows mark_follows
   mark_closes c k v = refl
@@ -509,7 +508,7 @@ module _ (g : Site) (end : ℕ) (b : Bounds) (S' : Setting g end b) (h : Host) (
       word : ℕ
       word = view g m (slot_word Command (before_of g.area Command c.slot) 2)
 
-      step : fetch_step g.bits (with_fetcher p (FetchTail E.Test c)) m ≡ with_memory (fetch_tailed (with_fetcher p (FetchTail E.Test c)) c (tail_follows g.area E.Test (Value word))) m
+      step : fetch_step g.bits (with_fetcher p (FetchTail E.Test c)) m ≡ with_memory (fetch_tailed (with_fetcher p (FetchTail E.Test c)) c (tail_follows g.area E.Test (Some word))) m
       step =
           tail_at g.bits p g.area I.agreed.go m E.Test c (Read (addr g (slot_word Command (before_of g.area Command c.slot) 2))) word I.agreed.port_runs
           (touch_test c) (reads g end F m I.size (slot_word Command (before_of g.area Command c.slot) 2) ((every_layout.ring g.area Command).before_in c.slot I.fetch.slot, omega arith))

@@ -1,5 +1,6 @@
 -- Places of an accepted setup lie in memory and keep clear of each other, so a write at one changes no other. The one file with
 -- addresses and bytes. Assumes nothing.
+use Rattle.std.specs.Prelude.{Some}
 use Prim.Native.Nat.{ℕ, ◌+◌, ◌<◌, ◌≤◌}
 use mathlib.Core.Path.{◌≡◌, sym}
 use mathlib.Core.Bool.{true}
@@ -8,7 +9,6 @@ use native.Mathlib.Omega.{arith}
 use lib.ListN.{length}
 use Rattle.base_memory.specs.Memory.{Memory, usable, inside, with_word}
 use Rattle.base_memory.specs.OneWord.{found}
-use Rattle.base_memory.specs.declared.Word.TheVariants.{Value}
 use Rattle.base_memory.specs.declared.Touch.TheVariants.{Read, Write}
 use Rattle.base_memory.proofs.Laws.{inside_yes, word_at_yes, with_word_low, with_word_high, word_in_other}
 use Rattle.base_area.specs.Layout.{slots, indicator_back}
@@ -84,10 +84,10 @@ module _ (g : Site) (end : ℕ) (F : AreaFacts g.bits g.area g.pool end) where
     pub lies_in : (p : Place) → Valid g p → inside g.bits m (addr g p) ≡ true
     lies_in p h = sym (inside_yes g.bits m (addr g p) end size (valid_in p h))
 
-    pub reads : (p : Place) → Valid g p → found g.bits m (Read (addr g p)) ≡ Value (view g m p)
+    pub reads : (p : Place) → Valid g p → found g.bits m (Read (addr g p)) ≡ Some (view g m p)
     reads p h = sym (word_at_yes g.bits m (addr g p) (sym (lies_in p h)))
 
-    pub writes : (p : Place) (x : ℕ) → Valid g p → found g.bits m (Write (addr g p) x) ≡ Value x
+    pub writes : (p : Place) (x : ℕ) → Valid g p → found g.bits m (Write (addr g p) x) ≡ Some x
     writes p x h = rw (lies_in p h)
 
     pub stored : (p : Place) (x : ℕ) → Valid g p → x < 65536 → view g (with_word g.bits m (addr g p) x) p ≡ x

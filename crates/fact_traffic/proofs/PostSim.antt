@@ -1,5 +1,6 @@
 -- The post side's step, stage by stage. It takes effect where it writes the high word; its refusal where it looks; its answer is told
 -- then, or at the end of its tail. Assumes nothing.
+use Rattle.std.specs.Prelude.{Some}
 use Prim.Native.Nat.{ℕ, suc, ◌+◌, ◌*◌, ◌-◌, ◌%◌, ◌<◌, ◌≤◌}
 use mathlib.Core.Path.{◌≡◌, refl, sym, ap, subst, ◌∙◌}
 use mathlib.Core.Bool.{Bool, true, false, cond, not}
@@ -13,7 +14,6 @@ use Rattle.base_words.specs.Words.{address_of, high_word, header_word}
 use Rattle.base_texts.specs.Texts.{words_of, word_of, padded}
 use Rattle.base_memory.specs.Memory.{Memory, usable, with_word}
 use Rattle.base_memory.specs.OneWord.{found, left}
-use Rattle.base_memory.specs.declared.Word.TheVariants.{Value}
 use Rattle.base_memory.specs.declared.Touch.{Touch}
 use Rattle.base_memory.specs.declared.Touch.TheVariants.{Read, Write}
 use Rattle.base_answers.specs.Told.{told, done}
@@ -57,7 +57,7 @@ use Rattle.fact_traffic.proofs.WordLaws.{high_owner, high_upper, high_lt, addres
 use Rattle.fact_traffic.proofs.GiverLaws.{put_len, put_head, put_word, letter}
 
 -- a step of a running port whose touch finds a word
-post_at : (n : ℕ) (p : Port) (a : Area) (go : ℕ) (m : Memory) (s : Stage) (c : Cursor) (t : Touch) (v : ℕ) → p.phase ≡ Running a go → post_asks n (with_poster p (Posting s c)) a s c ≡ t → found n m t ≡ Value v
+post_at : (n : ℕ) (p : Port) (a : Area) (go : ℕ) (m : Memory) (s : Stage) (c : Cursor) (t : Touch) (v : ℕ) → p.phase ≡ Running a go → post_asks n (with_poster p (Posting s c)) a s c ≡ t → found n m t ≡ Some v
     → post_step n (with_poster p (Posting s c)) m ≡ with_memory (post_finds n (with_poster p (Posting s c)) a (usable n (length m)) s c v) (left n m t)
 unfolding post_step post_follows port_step
 post_at n p a go m s c t v r e f = by_site n p a go m s c r ∙ rw (e, f)
@@ -67,8 +67,8 @@ post_at n p a go m s c t v r e f = by_site n p a go m s c r ∙ rw (e, f)
         ≡ with_memory (post_follows n (with_poster p (Posting s c)) a (usable n (length m)) s c (found n m (post_asks n (with_poster p (Posting s c)) a s c))) (left n m (post_asks n (with_poster p (Posting s c)) a s c))
     by_site n p a go m s c r = ap (λ (y : Phase). port_step n (with_poster p (Posting s c)) Response (post_asks n (with_poster p (Posting s c))) (post_follows n (with_poster p (Posting s c))) (post_tailed (with_poster p (Posting s c))) m (Posting s c) (serving_of y)) r
 
-tail_at : (n : ℕ) (p : Port) (a : Area) (go : ℕ) (m : Memory) (s : TailStage) (c : Cursor) (t : Touch) (v : ℕ) → p.phase ≡ Running a go → tail_asks n a Response s c ≡ t → found n m t ≡ Value v
-    → post_step n (with_poster p (PostTail s c)) m ≡ with_memory (post_tailed (with_poster p (PostTail s c)) c (tail_follows a s (Value v))) (left n m t)
+tail_at : (n : ℕ) (p : Port) (a : Area) (go : ℕ) (m : Memory) (s : TailStage) (c : Cursor) (t : Touch) (v : ℕ) → p.phase ≡ Running a go → tail_asks n a Response s c ≡ t → found n m t ≡ Some v
+    → post_step n (with_poster p (PostTail s c)) m ≡ with_memory (post_tailed (with_poster p (PostTail s c)) c (tail_follows a s (Some v))) (left n m t)
 unfolding post_step port_step
 tail_at n p a go m s c t v r e f = rw (r, e, f)
 
@@ -571,17 +571,17 @@ module _ (g : Site) (end : ℕ) (b : Bounds) (S' : Setting g end b) (h : Host) (
   touch_mark c = F.indicator_at Response 1
 
   test_goes : (c : Cursor) (k : Memory) (v : ℕ) → is_set owner v ≡ true
-      → with_memory (post_tailed (with_poster p (PostTail E.Test c)) c (tail_follows g.area E.Test (Value v))) k ≡ with_memory (onward (with_poster p (PostTail E.Mark c))) k
+      → with_memory (post_tailed (with_poster p (PostTail E.Test c)) c (tail_follows g.area E.Test (Some v))) k ≡ with_memory (onward (with_poster p (PostTail E.Mark c))) k
   unfolding post_tailed test_follows mark_follows
   test_goes c k v e = rw e
 
   test_closes : (c : Cursor) (k : Memory) (v : ℕ) → is_set owner v ≡ false
-      → with_memory (post_tailed (with_poster p (PostTail E.Test c)) c (tail_follows g.area E.Test (Value v))) k ≡ with_memory (record { told = told done false; state = with_poster p NoPost }) k
+      → with_memory (post_tailed (with_poster p (PostTail E.Test c)) c (tail_follows g.area E.Test (Some v))) k ≡ with_memory (record { told = told done false; state = with_poster p NoPost }) k
   unfolding post_tailed test_follows mark_follows
   test_closes c k v e = rw e
 
   mark_closes : (c : Cursor) (k : Memory) (v : ℕ)
-      → with_memory (post_tailed (with_poster p (PostTail E.Mark c)) c (tail_follows g.area E.Mark (Value v))) k
+      → with_memory (post_tailed (with_poster p (PostTail E.Mark c)) c (tail_follows g.area E.Mark (Some v))) k
       ≡ with_memory (record { told = told done (has_vector g.area.first); state = with_poster p NoPost }) k
   unfolding post_tailed test_follows mark_follows
   mark_closes c k v = refl
@@ -596,7 +596,7 @@ module _ (g : Site) (end : ℕ) (b : Bounds) (S' : Setting g end b) (h : Host) (
       word : ℕ
       word = view g m (slot_word Response (before_of g.area Response c.slot) 2)
 
-      step : post_step g.bits (with_poster p (PostTail E.Test c)) m ≡ with_memory (post_tailed (with_poster p (PostTail E.Test c)) c (tail_follows g.area E.Test (Value word))) m
+      step : post_step g.bits (with_poster p (PostTail E.Test c)) m ≡ with_memory (post_tailed (with_poster p (PostTail E.Test c)) c (tail_follows g.area E.Test (Some word))) m
       step =
           tail_at g.bits p g.area I.agreed.go m E.Test c (Read (addr g (slot_word Response (before_of g.area Response c.slot) 2))) word I.agreed.port_runs
           (touch_test c) (reads g end F m I.size (slot_word Response (before_of g.area Response c.slot) 2) ((every_layout.ring g.area Response).before_in c.slot I.post, omega arith))

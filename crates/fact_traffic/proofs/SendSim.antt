@@ -1,4 +1,5 @@
 -- The send side's step, stage by stage. It takes effect where it writes the high word; its refusals where it looks. Assumes nothing.
+use Rattle.std.specs.Prelude.{Some}
 use Prim.Native.Nat.{ℕ, ◌+◌, ◌*◌, ◌-◌, ◌%◌, ◌^◌, ◌<◌, ◌≤◌}
 use mathlib.Core.Path.{◌≡◌, refl, sym, ap, subst, ◌∙◌}
 use mathlib.Core.Bool.{Bool, true, false}
@@ -12,7 +13,6 @@ use Rattle.base_words.specs.Words.{low_word, with_address, high_word}
 use Rattle.base_texts.specs.Texts.{words_of, word_of, padded}
 use Rattle.base_memory.specs.Memory.{Memory, with_word}
 use Rattle.base_memory.specs.OneWord.{found, left}
-use Rattle.base_memory.specs.declared.Word.TheVariants.{Value}
 use Rattle.base_memory.specs.declared.Touch.{Touch}
 use Rattle.base_memory.specs.declared.Touch.TheVariants.{Nothing, Read, Write}
 use Rattle.base_answers.specs.Told.{told, done}
@@ -48,7 +48,7 @@ use Rattle.fact_traffic.proofs.GiverLaws.{put_len, put_head, put_word, letter}
 use Rattle.fact_traffic.proofs.WordLaws.{high_owner, high_upper, with_upper, low_lt, high_lt, upper_small}
 
 -- a step of a ready host whose touch finds a word
-send_at : (n : ℕ) (h : Host) (m : Memory) (s : SendStage) (c : Cursor) (t : Touch) (v : ℕ) → is_ready h ≡ true → send_asks n (with_sender h (Sending s c)) s c ≡ t → found n m t ≡ Value v
+send_at : (n : ℕ) (h : Host) (m : Memory) (s : SendStage) (c : Cursor) (t : Touch) (v : ℕ) → is_ready h ≡ true → send_asks n (with_sender h (Sending s c)) s c ≡ t → found n m t ≡ Some v
     → send_step n (with_sender h (Sending s c)) m ≡ with_memory (send_finds (with_sender h (Sending s c)) s c v) (left n m t)
 unfolding send_step send_follows is_ready host_step
 send_at n h m s c t v r e f = rw (r, e, f)

@@ -1,4 +1,5 @@
 -- The take side's step, stage by stage. It takes effect where it writes the high word; its refusal where it looks. Assumes nothing.
+use Rattle.std.specs.Prelude.{Ok, Some}
 use Prim.Native.Nat.{ℕ, suc, ◌+◌, ◌*◌, ◌%◌, ◌<◌, ◌≤◌, min}
 use mathlib.Core.Path.{◌≡◌, refl, sym, ap, subst, ◌∙◌}
 use mathlib.Core.Bool.{Bool, true, false, not}
@@ -12,12 +13,10 @@ use Rattle.base_words.specs.Words.{high_word}
 use Rattle.base_texts.specs.Texts.{words_of, with_text}
 use Rattle.base_memory.specs.Memory.{Memory, with_word}
 use Rattle.base_memory.specs.OneWord.{found, left}
-use Rattle.base_memory.specs.declared.Word.TheVariants.{Value}
 use Rattle.base_memory.specs.declared.Touch.{Touch}
 use Rattle.base_memory.specs.declared.Touch.TheVariants.{Read, Write}
 use Rattle.base_answers.specs.Told.{carried}
 use Rattle.base_rules.specs.Rules.{fault_of}
-use Rattle.base_rules.specs.declared.Fault.TheVariants.{Sound}
 use Rattle.base_rules.proofs.Laws.{sound}
 use Rattle.base_area.specs.Layout.{slots, next_of, envelope_at}
 use Rattle.base_area.specs.declared.Ring.TheVariants.{Command, Response}
@@ -52,7 +51,7 @@ use Rattle.fact_traffic.proofs.Sim.{Sim, later, now, sim_of, ran_does}
 use Rattle.fact_traffic.proofs.WordLaws.{high_owner, high_upper, high_lt, header_type, header_connection, header_credits}
 
 -- a step of a ready host whose touch finds a word
-take_at : (n : ℕ) (h : Host) (m : Memory) (s : TakeStage) (c : Cursor) (t : Touch) (v : ℕ) → is_ready h ≡ true → take_asks n (with_taker h (Taking s c)) s c ≡ t → found n m t ≡ Value v
+take_at : (n : ℕ) (h : Host) (m : Memory) (s : TakeStage) (c : Cursor) (t : Touch) (v : ℕ) → is_ready h ≡ true → take_asks n (with_taker h (Taking s c)) s c ≡ t → found n m t ≡ Some v
     → take_step n (with_taker h (Taking s c)) m ≡ with_memory (take_finds (with_taker h (Taking s c)) s c v) (left n m t)
 unfolding take_step take_follows is_ready host_step
 take_at n h m s c t v r e f = rw (r, e, f)
@@ -78,7 +77,7 @@ look_on : (h : Host) (m : Memory) (c : Cursor) (v : ℕ) → is_set owner v ≡ 
 unfolding take_high
 look_on h m c v e = rw e
 
-header_on : (h : Host) (m : Memory) (c : Cursor) (v k : ℕ) → Sound ≡ fault_of (of message_type v) (of connection v) c.size → of credits v ≡ k → h.counts.account + k ≤ 255
+header_on : (h : Host) (m : Memory) (c : Cursor) (v k : ℕ) → (Ok tt) ≡ fault_of (of message_type v) (of connection v) c.size → of credits v ≡ k → h.counts.account + k ≤ 255
     → with_memory (take_header (with_taker h (Taking H.Header c)) c v) m ≡ with_memory (onward (with_taker (with_incoming h h.incoming k) (text_or_closing c 0))) m
 unfolding take_header
 header_on h m c v k e f l = rw (← e, f, le-leb (h.counts.account + k) 255 l)

@@ -1,19 +1,15 @@
 -- "Errors that look right", and others that a port may be sold with: each as the one step in which such a half differs from ours.
-use Rattle.std.specs.Prelude.{ℕ, ◌+◌, true, false, length}
+use Rattle.std.specs.Prelude.{ℕ, ◌+◌, true, false, length, None, Option, Some}
 use Rattle.base_side.specs.Step.{Outcome, with_memory}
 use Rattle.base_words.specs.Words.{high_word, header_word}
 use Rattle.base_memory.specs.Memory.{Memory, usable}
 use Rattle.base_memory.specs.OneWord.{found, left}
-use Rattle.base_memory.specs.declared.Word.{Word}
-use Rattle.base_memory.specs.declared.Word.TheVariants.{Value, Outside}
 use Rattle.base_memory.specs.declared.Touch.TheVariants.{Write}
 use Rattle.base_area.specs.declared.Area.{Area}
 use Rattle.port_state.specs.State as PortState
 use Rattle.port_state.specs.Fetch.{fetch_asks, fetch_follows, fetch_step}
 use Rattle.port_state.specs.Post.{post_step}
 use Rattle.base_side.specs.declared.Cursor.{Cursor}
-use Rattle.port_state.specs.declared.state.Serving.{Serving}
-use Rattle.port_state.specs.declared.state.Serving.TheVariants.{Off, On}
 use Rattle.port_state.specs.declared.state.Stage.{Stage}
 use Rattle.port_state.specs.declared.state.Stage.TheVariants as S
 use Rattle.port_state.specs.declared.state.Side.{Side as Fetcher, Side as Poster}
@@ -45,9 +41,9 @@ abbrev pub high_word_first : ℕ → Host → Memory → Outcome Host
 high_word_first n h m = high_first n h m h.sender
 
 -- A port that does not look whose the slot is: it fetches "an envelope before the host had finished writing it".
-abbrev owned : Word → Word
-owned Outside = Outside
-owned (Value v) = Value (high_word true false v)
+abbrev owned : Option ℕ → Option ℕ
+owned None = None
+owned (Some v) = Some (high_word true false v)
 
 abbrev unlooked_stage : ℕ → Port → Area → Memory → Stage → Cursor → Outcome Port
 unlooked_stage n p a m S.High c = with_memory (fetch_follows n p a (usable n (length m)) S.High c (owned (found n m (fetch_asks n a S.High c)))) m
@@ -68,11 +64,11 @@ returned_at n p a m S.Text c = fetch_step n p m
 returned_at n p a m S.Release c = fetch_step n p m
 
 -- .. as a step of the fetch side.
-abbrev fetch_by : (ℕ → Port → Area → Memory → Stage → Cursor → Outcome Port) → ℕ → Port → Memory → Serving → Fetcher → Outcome Port
-fetch_by step n p m Off f = fetch_step n p m
-fetch_by step n p m (On a) NoFetch = fetch_step n p m
-fetch_by step n p m (On a) (Fetching s c) = step n p a m s c
-fetch_by step n p m (On a) (FetchTail s c) = fetch_step n p m
+abbrev fetch_by : (ℕ → Port → Area → Memory → Stage → Cursor → Outcome Port) → ℕ → Port → Memory → Option Area → Fetcher → Outcome Port
+fetch_by step n p m None f = fetch_step n p m
+fetch_by step n p m (Some a) NoFetch = fetch_step n p m
+fetch_by step n p m (Some a) (Fetching s c) = step n p a m s c
+fetch_by step n p m (Some a) (FetchTail s c) = fetch_step n p m
 
 abbrev pub fetched_unlooked : ℕ → Port → Memory → Outcome Port
 fetched_unlooked n p m = fetch_by unlooked_stage n p m (PortState.serving_of p.phase) p.fetcher
@@ -90,11 +86,11 @@ fifteen_at n p a m S.Header c =
 fifteen_at n p a m S.Text c = post_step n p m
 fifteen_at n p a m S.Release c = post_step n p m
 
-abbrev fifteen_by : ℕ → Port → Memory → Serving → Poster → Outcome Port
-fifteen_by n p m Off f = post_step n p m
-fifteen_by n p m (On a) NoPost = post_step n p m
-fifteen_by n p m (On a) (Posting s c) = fifteen_at n p a m s c
-fifteen_by n p m (On a) (PostTail s c) = post_step n p m
+abbrev fifteen_by : ℕ → Port → Memory → Option Area → Poster → Outcome Port
+fifteen_by n p m None f = post_step n p m
+fifteen_by n p m (Some a) NoPost = post_step n p m
+fifteen_by n p m (Some a) (Posting s c) = fifteen_at n p a m s c
+fifteen_by n p m (Some a) (PostTail s c) = post_step n p m
 
 abbrev pub fifteen_each : ℕ → Port → Memory → Outcome Port
 fifteen_each n p m = fifteen_by n p m (PortState.serving_of p.phase) p.poster

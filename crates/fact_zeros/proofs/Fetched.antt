@@ -1,4 +1,5 @@
 -- The port: what has come of a text is zero from its length on, and before its length is known all zero. Assumes nothing.
+use Rattle.std.specs.Prelude.{Err, None, Ok, Option, Result, Some}
 use Prim.Native.Nat.{ℕ, ◌+◌, ◌*◌, ◌-◌, ◌<◌}
 use mathlib.Core.Path.{◌≡◌, refl, ◌∙◌}
 use mathlib.Core.Bool.{Bool, true, false, cond, ◌&&◌}
@@ -11,14 +12,10 @@ use Rattle.base_texts.specs.Texts.{words_of, with_text, padded}
 use Rattle.base_texts.proofs.Laws.{zeros_length}
 use Rattle.base_memory.specs.Memory.{Memory, usable}
 use Rattle.base_memory.specs.OneWord.{found}
-use Rattle.base_memory.specs.declared.Word.{Word}
-use Rattle.base_memory.specs.declared.Word.TheVariants.{Value, Outside}
 use Rattle.base_answers.specs.Told.{told, done}
 use Rattle.base_answers.specs.declared.Fatal.{Fatal}
 use Rattle.base_answers.specs.declared.Fatal.TheVariants.{EnvelopeRead, EnvelopeWrite, CreditLimit, RingWrite}
 use Rattle.base_rules.specs.Rules.{fault_of}
-use Rattle.base_rules.specs.declared.Fault.{Fault}
-use Rattle.base_rules.specs.declared.Fault.TheVariants.{Sound, Unsound}
 use Rattle.base_area.specs.Layout.{area_lies, step_interrupt}
 use Rattle.base_area.specs.declared.Area.{Area}
 use Rattle.base_area.specs.declared.Ring.TheVariants.{Command, Response}
@@ -36,12 +33,9 @@ use Rattle.port_state.specs.declared.state.Asked.{Asked}
 use Rattle.port_state.specs.declared.state.Made.{Made}
 use Rattle.port_state.specs.declared.state.Phase.{Phase}
 use Rattle.port_state.specs.declared.state.Phase.TheVariants.{Step1, Wrap, Step2, Step3, Step4, Running, Failed}
-use Rattle.port_state.specs.declared.state.Serving.{Serving}
-use Rattle.port_state.specs.declared.state.Serving.TheVariants.{Off, On}
 use Rattle.port_state.specs.declared.state.Stage.{Stage}
 use Rattle.port_state.specs.declared.state.Stage.TheVariants.{High, Low, Length, Header, Text, Release}
-use Rattle.port_state.specs.declared.state.TailEnd.{TailEnd}
-use Rattle.port_state.specs.declared.state.TailEnd.TheVariants.{Onward, Closed, Broken}
+use Rattle.port_state.specs.Tail.{TailEnd}
 use Rattle.port_state.specs.declared.state.Side.{Side}
 use Rattle.port_state.specs.declared.state.Side.TheVariants.{Idle, At, Tail}
 use Rattle.port_state.specs.declared.state.Port.{Port}
@@ -94,9 +88,9 @@ module _ (p : Port) (l : length p.incoming ≡ 60) where
   refuses k = record { keeps = record { long = l; clean = tt }; filled = bare _ _ }
 
   module _ (n : ℕ) (a : Area) (end : ℕ) (c : Cursor) where
-    judged : (f : Fault) → Zero 0 p.incoming → Good (header_sound p end c f)
-    judged (Unsound x) z = fails p l x
-    judged Sound z =
+    judged : (f : Result (Unit {0}) Fatal) → Zero 0 p.incoming → Good (header_sound p end c f)
+    judged (Err x) z = fails p l x
+    judged (Ok tt) z =
         either (leb (c.envelope + 4 + 2 * words_of c.size) end)
         (cond (credit_out p) (onward (with_fetcher p (text_or_release c 0))) (fail p CreditLimit))
         (fail p EnvelopeRead)
@@ -106,19 +100,19 @@ module _ (p : Port) (l : length p.incoming ≡ 60) where
     closes : (q : Port) (i : Bool) → length q.incoming ≡ 60 → Zero c.size q.incoming → Good (fetch_closed q c i)
     closes q i e z = record { keeps = record { long = e; clean = tt }; filled = record { sixty = e; beyond = λ j h. z j h } }
 
-    finds : (s : Stage) → Clean p.incoming (At s c) → (w : Word) → Good (fetch_follows n p a end s c w)
+    finds : (s : Stage) → Clean p.incoming (At s c) → (w : Option ℕ) → Good (fetch_follows n p a end s c w)
     unfolding fetch_follows fetch_high fetch_low fetch_header fetch_text fetch_release fetched
-    finds s z Outside = fails p l _
-    finds High z (Value v) = either (is_set owner v) (onward (with_fetcher p (At Low (with_high c v)))) (refuse p Command 7) (goes (At Low (with_high c v)) z) (refuses 7)
-    finds Low z (Value v) =
+    finds s z None = fails p l _
+    finds High z (Some v) = either (is_set owner v) (onward (with_fetcher p (At Low (with_high c v)))) (refuse p Command 7) (goes (At Low (with_high c v)) z) (refuses 7)
+    finds Low z (Some v) =
         either (leb 4 (address_of n v c.high) && leb (address_of n v c.high) end)
         (onward (with_fetcher p (At Length (with_envelope c (address_of n v c.high - 4)))))
         (fail p EnvelopeRead)
         (goes (At Length (with_envelope c (address_of n v c.high - 4))) z)
         (fails p l EnvelopeRead)
-    finds Length z (Value v) = goes _ z
-    finds Header z (Value v) = judged (fault_of (of message_type v) (of connection v) c.size) z
-    finds Text z (Value v) =
+    finds Length z (Some v) = goes _ z
+    finds Header z (Some v) = judged (fault_of (of message_type v) (of connection v) c.size) z
+    finds Text z (Some v) =
         record {
           keeps = record {
             long = text_length p.incoming c.size c.at v ∙ l;
@@ -126,7 +120,7 @@ module _ (p : Port) (l : length p.incoming ≡ 60) where
           };
           filled = bare _ _;
         }
-    finds Release z (Value v) =
+    finds Release z (Some v) =
         either (is_set flagged c.high)
         (onward (with_fetcher (fetched p a c) (Tail (tail_start a Command) c)))
         (fetch_closed (fetched p a c) c false)
@@ -135,23 +129,23 @@ module _ (p : Port) (l : length p.incoming ≡ 60) where
 
     ends : (x : TailEnd) → Zero c.size p.incoming → Good (fetch_tailed p c x)
     unfolding fetch_tailed
-    ends Onward z = goes _ z
-    ends (Closed i) z = closes p i l z
-    ends (Broken x) z = fails p l x
+    ends (Ok None) z = goes _ z
+    ends (Ok (Some i)) z = closes p i l z
+    ends (Err x) z = fails p l x
 
   record Stepped (q : Port) (t : Rattle.base_answers.specs.Told.Told) : Type 0 where
     keeps : Keeps q
     filled : Filled t
 
-  fetch_case : (n : ℕ) (m : Memory) (x : Side) (s : Serving) → Clean p.incoming x
+  fetch_case : (n : ℕ) (m : Memory) (x : Side) (s : Option Area) → Clean p.incoming x
       → Stepped (port_step n p Command (fetch_asks n) (fetch_follows n p) (fetch_tailed p) m x s).state (port_step n p Command (fetch_asks n) (fetch_follows n p) (fetch_tailed p) m x s).told
   unfolding port_step
-  fetch_case n m x Off z = record { keeps = record { long = l; clean = tt }; filled = bare _ _ }
-  fetch_case n m Idle (On a) z = record { keeps = record { long = l; clean = tt }; filled = bare _ _ }
-  fetch_case n m (At s c) (On a) z =
+  fetch_case n m x None z = record { keeps = record { long = l; clean = tt }; filled = bare _ _ }
+  fetch_case n m Idle (Some a) z = record { keeps = record { long = l; clean = tt }; filled = bare _ _ }
+  fetch_case n m (At s c) (Some a) z =
       let g : Good (fetch_follows n p a (usable n (length m)) s c (found n m (fetch_asks n a s c))) = finds n a (usable n (length m)) c s z (found n m (fetch_asks n a s c)) in
       record { keeps = g.keeps; filled = g.filled }
-  fetch_case n m (Tail s c) (On a) z =
+  fetch_case n m (Tail s c) (Some a) z =
       let g : Good (fetch_tailed p c (tail_follows a s (found n m (tail_asks n a Command s c)))) = ends n a (usable n (length m)) c (tail_follows a s (found n m (tail_asks n a Command s c))) z in
       record { keeps = g.keeps; filled = g.filled }
 
@@ -170,34 +164,34 @@ module _ (p : Port) (K : Keeps p) where
   broken = record { long = K.long; clean = tt }
 
   module _ (n : ℕ) (a : Area) (end : ℕ) (c : Cursor) where
-    posts : (s : Stage) (w : Word) → Keeps (post_follows n p a end s c w).state
+    posts : (s : Stage) (w : Option ℕ) → Keeps (post_follows n p a end s c w).state
     unfolding post_follows post_high post_low post_release posted
-    posts s Outside = broken
-    posts High (Value v) = which (is_set owner v) (onward (with_poster p (At Low (with_high c v)))) (refuse p Response 8) K K
-    posts Low (Value v) =
+    posts s None = broken
+    posts High (Some v) = which (is_set owner v) (onward (with_poster p (At Low (with_high c v)))) (refuse p Response 8) K K
+    posts Low (Some v) =
         which (leb 4 (address_of n v c.high) && leb (address_of n v c.high + 2 * words_of c.size) end)
         (onward (with_poster p (At Length (with_envelope c (address_of n v c.high - 4)))))
         (fail p EnvelopeWrite)
         K
         broken
-    posts Length (Value v) = K
-    posts Header (Value v) = K
-    posts Text (Value v) = K
-    posts Release (Value v) =
+    posts Length (Some v) = K
+    posts Header (Some v) = K
+    posts Text (Some v) = K
+    posts Release (Some v) =
         which (is_set flagged c.high) (onward (with_poster (posted p a c) (Tail (tail_start a Response) c))) (post_closed (posted p a c) false) K K
 
     post_ends : (x : TailEnd) → Keeps (post_tailed p c x).state
     unfolding post_tailed
-    post_ends Onward = K
-    post_ends (Closed i) = K
-    post_ends (Broken x) = broken
+    post_ends (Ok None) = K
+    post_ends (Ok (Some i)) = K
+    post_ends (Err x) = broken
 
-  post_case : (n : ℕ) (m : Memory) (x : Side) (s : Serving) → Keeps (port_step n p Response (post_asks n p) (post_follows n p) (post_tailed p) m x s).state
+  post_case : (n : ℕ) (m : Memory) (x : Side) (s : Option Area) → Keeps (port_step n p Response (post_asks n p) (post_follows n p) (post_tailed p) m x s).state
   unfolding port_step
-  post_case n m x Off = K
-  post_case n m Idle (On a) = K
-  post_case n m (At s c) (On a) = posts n a (usable n (length m)) c s (found n m (post_asks n p a s c))
-  post_case n m (Tail s c) (On a) = post_ends n a (usable n (length m)) c (tail_follows a s (found n m (tail_asks n a Response s c)))
+  post_case n m x None = K
+  post_case n m Idle (Some a) = K
+  post_case n m (At s c) (Some a) = posts n a (usable n (length m)) c s (found n m (post_asks n p a s c))
+  post_case n m (Tail s c) (Some a) = post_ends n a (usable n (length m)) c (tail_follows a s (found n m (tail_asks n a Response s c)))
 
   hears : (n : ℕ) (w : ℕ) (m : Memory) (x : Phase) → Keeps (heard n p w m x).state
   unfolding first_heard
@@ -215,15 +209,15 @@ module _ (p : Port) (K : Keeps p) where
   hears n w m (Running a x) = K
   hears n w m (Failed x) = K
 
-  fetch_begins_lem : (x : Side) (s : Serving) → Keeps (port_begun p (fetch_begins p) x s).state
+  fetch_begins_lem : (x : Side) (s : Option Area) → Keeps (port_begun p (fetch_begins p) x s).state
   unfolding port_begun
-  fetch_begins_lem x Off = K
-  fetch_begins_lem x (On a) = which (is_idle x) (fetch_begins p) (denied p 2) (record { long = zeros_length; clean = zeros_zero }) K
+  fetch_begins_lem x None = K
+  fetch_begins_lem x (Some a) = which (is_idle x) (fetch_begins p) (denied p 2) (record { long = zeros_length; clean = zeros_zero }) K
 
-  post_begins_lem : (y : Asked) (t : List ℕ) (x : Side) (s : Serving) → Keeps (port_begun p (post_begins p y t) x s).state
+  post_begins_lem : (y : Asked) (t : List ℕ) (x : Side) (s : Option Area) → Keeps (port_begun p (post_begins p y t) x s).state
   unfolding port_begun
-  post_begins_lem y t x Off = K
-  post_begins_lem y t x (On a) = which (is_idle x) (post_begins p y t) (denied p 2) begun K
+  post_begins_lem y t x None = K
+  post_begins_lem y t x (Some a) = which (is_idle x) (post_begins p y t) (denied p 2) begun K
     where
       begun : Keeps (post_begins p y t).state
       begun =

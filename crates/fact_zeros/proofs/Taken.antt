@@ -1,4 +1,6 @@
 -- The host: what has come of a text is zero from its length on, and before its length is known all zero. Assumes nothing.
+use Rattle.base_answers.specs.declared.Fatal.{Fatal}
+use Rattle.std.specs.Prelude.{Err, None, Ok, Option, Result, Some}
 use Prim.Native.Nat.{ℕ, ◌+◌, ◌*◌, ◌<◌}
 use mathlib.Core.Path.{◌≡◌, refl, ◌∙◌}
 use mathlib.Core.Bool.{Bool, true, false, cond, ◌&&◌, ◌||◌}
@@ -10,12 +12,8 @@ use Rattle.base_texts.specs.Texts.{with_text, padded}
 use Rattle.base_texts.proofs.Laws.{zeros_length}
 use Rattle.base_memory.specs.Memory.{Memory, usable}
 use Rattle.base_memory.specs.OneWord.{found}
-use Rattle.base_memory.specs.declared.Word.{Word}
-use Rattle.base_memory.specs.declared.Word.TheVariants.{Value, Outside}
 use Rattle.base_answers.specs.Told.{Told, told, done}
 use Rattle.base_rules.specs.Rules.{fault_of}
-use Rattle.base_rules.specs.declared.Fault.{Fault}
-use Rattle.base_rules.specs.declared.Fault.TheVariants.{Sound, Unsound}
 use Rattle.base_area.specs.Layout.{indicator}
 use Rattle.base_area.specs.Setup.{fits}
 use Rattle.base_area.specs.declared.Ring.{Ring}
@@ -82,22 +80,22 @@ module _ (h : Host) (l : length h.incoming ≡ 60) where
   refuses_with k = record { keeps = record { long = l; clean = tt }; filled = bare _ _ }
 
   module _ (c : Cursor) where
-    judged : (k : ℕ) (f : Fault) → Zero 0 h.incoming → Good (take_sound h c k f).state (take_sound h c k f).told
-    judged k (Unsound x) z = refuses_with 9
-    judged k Sound z =
+    judged : (k : ℕ) (f : Result (Unit {0}) Fatal) → Zero 0 h.incoming → Good (take_sound h c k f).state (take_sound h c k f).told
+    judged k (Err x) z = refuses_with 9
+    judged k (Ok tt) z =
         either (leb (h.counts.account + k) 255) (onward (with_taker (with_incoming h h.incoming k) (text_or_closing c 0))) (refuse h Response 9)
         (record { keeps = record { long = l; clean = text_clean c 0 h.incoming (zero_on c.size h.incoming z) }; filled = bare _ _ })
         (refuses_with 9)
 
-    finds : (s : Stage) → Clean h.incoming (At s c) → (w : Word) → Good (take_follows h s c w).state (take_follows h s c w).told
+    finds : (s : Stage) → Clean h.incoming (At s c) → (w : Option ℕ) → Good (take_follows h s c w).state (take_follows h s c w).told
     unfolding take_follows take_high take_header take_text take_closed taken
-    finds s z Outside = refuses_with 10
-    finds High z (Value v) =
+    finds s z None = refuses_with 10
+    finds High z (Some v) =
         either (is_set owner v) (refuse h Response 7) (onward (with_taker h (At Length (with_high c v)))) (refuses_with 7)
         (record { keeps = record { long = l; clean = z }; filled = bare _ _ })
-    finds Length z (Value v) = record { keeps = record { long = l; clean = z }; filled = bare _ _ }
-    finds Header z (Value v) = judged (of credits v) (fault_of (of message_type v) (of connection v) c.size) z
-    finds Text z (Value v) =
+    finds Length z (Some v) = record { keeps = record { long = l; clean = z }; filled = bare _ _ }
+    finds Header z (Some v) = judged (of credits v) (fault_of (of message_type v) (of connection v) c.size) z
+    finds Text z (Some v) =
         record {
           keeps = record {
             long = text_length h.incoming c.size c.at v ∙ l;
@@ -105,8 +103,8 @@ module _ (h : Host) (l : length h.incoming ≡ 60) where
           };
           filled = bare _ _;
         }
-    finds Closing z (Value v) = record { keeps = record { long = l; clean = z }; filled = bare _ _ }
-    finds Release z (Value v) = record { keeps = record { long = l; clean = tt }; filled = record { sixty = l; beyond = λ j h. z j h } }
+    finds Closing z (Some v) = record { keeps = record { long = l; clean = z }; filled = bare _ _ }
+    finds Release z (Some v) = record { keeps = record { long = l; clean = tt }; filled = record { sixty = l; beyond = λ j h. z j h } }
 
   take_case : (n : ℕ) (m : Memory) (x : Side) (b : Bool) → Clean h.incoming x
       → Good (host_step n h Response (take_asks n h) (take_follows h) m x b).state (host_step n h Response (take_asks n h) (take_follows h) m x b).told
@@ -182,26 +180,26 @@ module _ (h : Host) (K : Keeps h) where
       go true false t x = K
       go false s t x = K
 
-  clear_word : (w : Word) → Keeps (clear_follows h w).state
-  clear_word Outside = K
-  clear_word (Value v) = K
+  clear_word : (w : Option ℕ) → Keeps (clear_follows h w).state
+  clear_word None = K
+  clear_word (Some v) = K
 
   clears_so : (n : ℕ) (r : Ring) (m : Memory) → Keeps (indicator_cleared n h r m).state
   unfolding indicator_cleared
   clears_so n r m =
       which_out (is_finished h.shake) (stepped n m (indicator n h.area r 0) (clear_follows h)) (with_memory (denied h 1) m) (clear_word (found n m (indicator n h.area r 0))) K
 
-  sends : (s : Stage) (c : Cursor) (w : Word) → Keeps (send_follows h s c w).state
+  sends : (s : Stage) (c : Cursor) (w : Option ℕ) → Keeps (send_follows h s c w).state
   unfolding send_follows send_high sent
-  sends s c Outside = K
-  sends High c (Value v) =
+  sends s c None = K
+  sends High c (Some v) =
       which (eqb h.counts.account 0) (refuse h Command 5) (cond (is_set owner v) (refuse h Command 6) (onward (with_sender h (At Length (with_high c v))))) K
       (which (is_set owner v) (refuse h Command 6) (onward (with_sender h (At Length (with_high c v)))) K K)
-  sends Length c (Value v) = K
-  sends Header c (Value v) = K
-  sends Text c (Value v) = K
-  sends Closing c (Value v) = K
-  sends Release c (Value v) = K
+  sends Length c (Some v) = K
+  sends Header c (Some v) = K
+  sends Text c (Some v) = K
+  sends Closing c (Some v) = K
+  sends Release c (Some v) = K
 
   send_case : (n : ℕ) (m : Memory) (x : Side) (b : Bool) → Keeps (host_step n h Command (send_asks n h) (send_follows h) m x b).state
   unfolding host_step

@@ -1,2 +1,1 @@
-pub mod ShakeLaws
 pub mod Determined

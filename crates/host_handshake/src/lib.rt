@@ -16,19 +16,11 @@ use host_state::state::{Act, Beginning, Host, Shake, Shaken, Step};
 fn accepted(b: Beginning) -> bool
     ensures { result ≡ accepts address_bits b }
 {
-    if 7 < b.command {
-        return false;
-    }
-    if 7 < b.response {
-        return false;
-    }
-    if 127 < b.vector {
-        return false;
-    }
-    if b.base % 2 != 0 {
-        return false;
-    }
-    b.base < base_words::descriptor::END
+    b.command <= 7
+        && b.response <= 7
+        && b.vector <= 127
+        && b.base % 2 == 0
+        && b.base < base_words::descriptor::END
 }
 
 // The three words of a beginning.
@@ -42,27 +34,17 @@ fn area_of(b: Beginning) -> Area
     }
 }
 
-// A step's bit, and the old step's.
+// A step's bit, and the old step's; Step 1 has no step before it.
 fn bit_of(step: Step) -> u16
     ensures { result ≡ bit_of step }
 {
-    match step {
-        Step::One => 1,
-        Step::Two => 2,
-        Step::Three => 4,
-        Step::Four => 8,
-    }
+    step as u16
 }
 
 fn old_of(step: Step) -> u16
     ensures { result ≡ old_of step }
 {
-    match step {
-        Step::One => 0,
-        Step::Two => 1,
-        Step::Three => 2,
-        Step::Four => 4,
-    }
+    step as u16 / 2
 }
 
 // Whether a step's word echoes what the host wrote.
@@ -70,10 +52,9 @@ fn echo_is_right(area: Area, step: Step, sa: u16) -> bool
     ensures { result ≡ echoes area step sa }
 {
     match step {
-        Step::One => true,
         Step::Two => shown::echoed(sa) == hostword::upper_half(area.first),
         Step::Three => shown::echoed(sa) == hostword::lower_half(area.first),
-        Step::Four => true,
+        Step::One | Step::Four => true,
     }
 }
 
@@ -102,6 +83,7 @@ fn after_step(step: Step, retried: bool) -> Shake
 }
 
 // Begins the handshake, forgetting all else; bad settings are refused and change nothing.
+#[tactic(auto, unfolding(host_state::specs::Shake::begun))]
 pub fn begin(host: Host, b: Beginning) -> Shaken
     ensures { turn_by result ≡ begun address_bits host b }
 {
@@ -128,13 +110,13 @@ fn stumbles(host: Host, retried: bool) -> Shaken
 fn answers(host: Host, step: Step, retried: bool) -> Shaken
     ensures { turn_by result ≡ turn (writes_sa (reply host.area step)) (with_shake host (onward_from step retried)) }
 {
-    let area = host.area;
-    let word = word_for(area, step);
+    let word = word_for(host.area, step);
     host.with_shake(after_step(step, retried))
         .asks(Act::WriteSa(word))
 }
 
 // A word of SA while a step is expected.
+#[tactic(auto, unfolding(host_state::specs::Shake::expecting))]
 fn expects(host: Host, step: Step, retried: bool, sa: u16) -> Shaken
     ensures { turn_by result ≡ expecting host step retried sa }
 {
@@ -142,27 +124,21 @@ fn expects(host: Host, step: Step, retried: bool, sa: u16) -> Shaken
         return stumbles(host, retried);
     }
     let bits = shown::steps(sa);
-    if bits == 0 {
+    if bits == 0 || bits == old_of(step) {
         return host.asks(Act::Waiting);
     }
-    if bits == old_of(step) {
-        return host.asks(Act::Waiting);
-    }
-    let area = host.area;
-    if bits == bit_of(step) {
-        if echo_is_right(area, step, sa) {
-            return answers(host, step, retried);
-        }
+    if bits == bit_of(step) && echo_is_right(host.area, step, sa) {
+        return answers(host, step, retried);
     }
     stumbles(host, retried)
 }
 
 // A word of SA seen.
+#[tactic(auto, unfolding(host_state::specs::Shake::sa_seen))]
 pub fn sa_seen(host: Host, sa: u16) -> Shaken
     ensures { turn_by result ≡ sa_seen host sa }
 {
-    let shake = host.shake;
-    match shake {
+    match host.shake {
         Shake::Dead => host.asks(Act::IsDead),
         Shake::Expect(step, retried) => expects(host, step, retried, sa),
         Shake::Finished => {
@@ -176,11 +152,11 @@ pub fn sa_seen(host: Host, sa: u16) -> Shaken
 }
 
 // Time is up.
+#[tactic(auto, unfolding(host_state::specs::Shake::time_up))]
 pub fn time_is_up(host: Host) -> Shaken
     ensures { turn_by result ≡ time_up host }
 {
-    let shake = host.shake;
-    match shake {
+    match host.shake {
         Shake::Dead => host.asks(Act::IsDead),
         Shake::Expect(_, retried) => stumbles(host, retried),
         Shake::Finished => host.asks(Act::None),

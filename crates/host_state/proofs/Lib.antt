@@ -1,4 +1,1 @@
-pub mod StateLaws
-pub mod SideLaws
-pub mod EffectLaws
 pub mod Determined

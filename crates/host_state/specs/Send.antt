@@ -1,11 +1,9 @@
 -- "Send: read own slot's high word; write length; header word (0); text words; low word; high word with O=1 and the asked F."
-use Rattle.std.specs.Prelude.{ℕ, ◌+◌, ◌*◌, ◌-◌, true, false, cond, List, leb, eqb, length}
+use Rattle.std.specs.Prelude.{ℕ, ◌+◌, ◌*◌, ◌-◌, true, false, cond, List, leb, eqb, length, Option}
 use Rattle.base_words.specs.Fields.{is_set, owner}
 use Rattle.base_words.specs.Words.{low_word, with_address, high_word}
 use Rattle.base_texts.specs.Texts.{room, word_of, padded}
 use Rattle.base_memory.specs.Memory.{Memory}
-use Rattle.base_memory.specs.declared.Word.{Word}
-use Rattle.base_memory.specs.declared.Word.TheVariants.{Value, Outside}
 use Rattle.base_memory.specs.declared.Touch.{Touch}
 use Rattle.base_memory.specs.declared.Touch.TheVariants.{Nothing, Read, Write}
 use Rattle.base_answers.specs.Told.{told, done}
@@ -15,7 +13,7 @@ use Rattle.base_side.specs.Place.{start_of, with_high}
 use Rattle.base_side.specs.Step.{Next, Outcome, onward, denied}
 use Rattle.base_side.specs.declared.Cursor.{Cursor}
 use Rattle.host_state.specs.State.{is_ready, envelope_of, with_sender, with_outgoing, with_counts}
-use Rattle.host_state.specs.Side.{text_or_closing, refuse, host_step, host_begun}
+use Rattle.host_state.specs.Side.{text_or_closing, refuse, followed, host_step, host_begun}
 use Rattle.host_state.specs.declared.state.Asked.{Asked}
 use Rattle.host_state.specs.declared.state.Stage.{Stage}
 use Rattle.host_state.specs.declared.state.Stage.TheVariants.{High, Length, Header, Text, Closing, Release}
@@ -55,9 +53,8 @@ send_finds h Closing c v = onward (with_sender h (At Release c))
 send_finds h Release c v = send_closed h c
 
 -- or from none: "host word outside memory: 10; words already written by that operation stay".
-unfoldable pub send_follows : Host → Stage → Cursor → Word → Next Host
-send_follows h s c Outside = refuse h Command 10
-send_follows h s c (Value v) = send_finds h s c v
+unfoldable pub send_follows : Host → Stage → Cursor → Option ℕ → Next Host
+send_follows h s c w = followed h Command (send_finds h s c) w
 
 -- A step of the send side, and its beginning with a text: after 1 and 2, refusal 3.
 unfoldable pub send_step : ℕ → Host → Memory → Outcome Host

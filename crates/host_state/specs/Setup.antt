@@ -1,8 +1,6 @@
 -- The host's setup with a pool address, and the clearing of an indicator.
-use Rattle.std.specs.Prelude.{ℕ, true, false, cond, length}
+use Rattle.std.specs.Prelude.{ℕ, true, false, cond, length, Option, Some, None}
 use Rattle.base_memory.specs.Memory.{Memory, usable}
-use Rattle.base_memory.specs.declared.Word.{Word}
-use Rattle.base_memory.specs.declared.Word.TheVariants.{Value, Outside}
 use Rattle.base_answers.specs.Told.{told, done}
 use Rattle.base_area.specs.Layout.{indicator}
 use Rattle.base_area.specs.Setup.{fits, set_up}
@@ -43,9 +41,9 @@ set_up_by n h pool m =
     (with_memory (denied h 1) m)
 
 -- "Clearing an indicator is a host step": it needs the handshake but no setup, belongs to no side, and its 10 ends nothing.
-abbrev pub clear_follows : Host → Word → Next Host
-clear_follows h Outside = denied h 10
-clear_follows h (Value v) = record { told = told done false; state = h }
+abbrev pub clear_follows : Host → Option ℕ → Next Host
+clear_follows h None = denied h 10
+clear_follows h (Some v) = record { told = told done false; state = h }
 
 unfoldable pub indicator_cleared : ℕ → Host → Ring → Memory → Outcome Host
 indicator_cleared n h r m =

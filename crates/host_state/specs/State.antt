@@ -1,12 +1,10 @@
 -- The host's record with some of its fields changed, and what its calls share.
 use Rattle.std.specs.Prelude.{ℕ, min, Bool, true, false, ◌&&◌, List}
 use Rattle.base_texts.specs.Texts.{zeros}
-use Rattle.base_answers.specs.Told.{told_of}
 use Rattle.base_area.specs.Layout.{envelope_at}
 use Rattle.base_area.specs.declared.Area.{Area}
 use Rattle.base_area.specs.declared.Ring.{Ring}
 use Rattle.base_area.specs.declared.Ring.TheVariants.{Command, Response}
-use Rattle.base_side.specs.Step.{Next}
 use Rattle.host_state.specs.declared.state.Asked.{Asked}
 use Rattle.host_state.specs.declared.state.Counts.{Counts}
 use Rattle.host_state.specs.declared.state.Shake.{Shake}
@@ -14,11 +12,6 @@ use Rattle.host_state.specs.declared.state.Shake.TheVariants.{Dead, Expect, Fini
 use Rattle.host_state.specs.declared.state.Side.{Side}
 use Rattle.host_state.specs.declared.state.Side.TheVariants.{Idle}
 use Rattle.host_state.specs.declared.state.Host.{Host}
-use Rattle.host_state.specs.declared.state.Stepped.{Stepped}
-
--- What the code returned, in the terms of the definitions.
-abbrev pub next_by : Stepped → Next Host
-next_by r = record { told = told_of r.reply; state = r.host }
 
 -- "Its handshake is finished when it has written GO."
 abbrev pub is_finished : Shake → Bool
@@ -51,6 +44,10 @@ with_taker h x =
 abbrev pub with_side : Host → Ring → Side → Host
 with_side h Command x = with_sender h x
 with_side h Response x = with_taker h x
+
+abbrev pub side_of : Host → Ring → Side
+side_of h Command = h.sender
+side_of h Response = h.taker
 
 -- A message to be sent: its text, and what was asked of it. One that is taken: its text so far, and the credits that it carries.
 abbrev pub with_outgoing : Host → List ℕ → Asked → Host

@@ -1,24 +1,21 @@
 -- "Take: read high word; length; header; text words; write 60 as length; write high word with O=1, F=1."
-use Rattle.std.specs.Prelude.{ℕ, ◌+◌, ◌*◌, min, true, false, cond, leb}
+use Rattle.std.specs.Prelude.{ℕ, ◌+◌, ◌*◌, min, true, false, cond, leb, Option, Result, Ok, Err}
 use Rattle.base_words.specs.Fields.{of, is_set, owner, connection, message_type, credits}
 use Rattle.base_words.specs.Words.{high_word}
 use Rattle.base_texts.specs.Texts.{room, zeros, with_text}
 use Rattle.base_memory.specs.Memory.{Memory}
-use Rattle.base_memory.specs.declared.Word.{Word}
-use Rattle.base_memory.specs.declared.Word.TheVariants.{Value, Outside}
 use Rattle.base_memory.specs.declared.Touch.{Touch}
 use Rattle.base_memory.specs.declared.Touch.TheVariants.{Read, Write}
 use Rattle.base_answers.specs.Told.{carried}
+use Rattle.base_answers.specs.declared.Fatal.{Fatal}
 use Rattle.base_rules.specs.Rules.{fault_of, most_account}
-use Rattle.base_rules.specs.declared.Fault.{Fault}
-use Rattle.base_rules.specs.declared.Fault.TheVariants.{Sound, Unsound}
 use Rattle.base_area.specs.Layout.{slot_at, next_of}
 use Rattle.base_area.specs.declared.Ring.TheVariants.{Response}
 use Rattle.base_side.specs.Place.{start_of, with_high, with_size}
 use Rattle.base_side.specs.Step.{Next, Outcome, onward}
 use Rattle.base_side.specs.declared.Cursor.{Cursor}
 use Rattle.host_state.specs.State.{is_ready, envelope_of, with_taker, with_incoming, with_counts}
-use Rattle.host_state.specs.Side.{text_or_closing, refuse, host_step, host_begun}
+use Rattle.host_state.specs.Side.{text_or_closing, refuse, followed, host_step, host_begun}
 use Rattle.host_state.specs.declared.state.Stage.{Stage}
 use Rattle.host_state.specs.declared.state.Stage.TheVariants.{High, Length, Header, Text, Closing, Release}
 use Rattle.host_state.specs.declared.state.Side.TheVariants.{Idle, At}
@@ -38,9 +35,9 @@ unfoldable pub take_high : Host → Cursor → ℕ → Next Host
 take_high h c v = cond (is_set owner v) (refuse h Response 7) (onward (with_taker h (At Length (with_high c v))))
 
 -- Refusal 9: "take, after the header: length over 60, type not 0, connection not 0, or account plus its credits above 255".
-abbrev pub take_sound : Host → Cursor → ℕ → Fault → Next Host
-take_sound h c k (Unsound x) = refuse h Response 9
-take_sound h c k Sound =
+abbrev pub take_sound : Host → Cursor → ℕ → Result (Unit {0}) Fatal → Next Host
+take_sound h c k (Err x) = refuse h Response 9
+take_sound h c k (Ok u) =
     cond (leb (h.counts.account + k) most_account) (onward (with_taker (with_incoming h h.incoming k) (text_or_closing c 0))) (refuse h Response 9)
 
 unfoldable pub take_header : Host → Cursor → ℕ → Next Host
@@ -68,9 +65,8 @@ take_finds h Closing c v = onward (with_taker h (At Release c))
 take_finds h Release c v = take_closed h c
 
 -- or from none: "host word outside memory: 10; words already written by that operation stay".
-unfoldable pub take_follows : Host → Stage → Cursor → Word → Next Host
-take_follows h s c Outside = refuse h Response 10
-take_follows h s c (Value v) = take_finds h s c v
+unfoldable pub take_follows : Host → Stage → Cursor → Option ℕ → Next Host
+take_follows h s c w = followed h Response (take_finds h s c) w
 
 -- A step of the take side, and its beginning.
 unfoldable pub take_step : ℕ → Host → Memory → Outcome Host

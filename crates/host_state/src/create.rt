@@ -10,11 +10,6 @@ impl Host {
     pub fn new() -> Host
         ensures { result ≡ new_host }
     {
-        let area = Area {
-            first: 0,
-            second: 0,
-            third: 0,
-        };
-        Host::fresh_at(Shake::Dead, area)
+        Host::fresh_at(Shake::Dead, Area::default())
     }
 }

@@ -4,4 +4,5 @@
 
 pub mod create;
 pub mod effect;
+pub mod operation;
 pub mod state;

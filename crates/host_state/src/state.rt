@@ -1,19 +1,15 @@
-ghost use Rattle.std.specs.Prelude.{◌≡◌, false};
+ghost use Rattle.std.specs.Prelude.{◌≡◌};
 ghost use Rattle.base_texts.specs.Texts.{zeros};
-ghost use Rattle.base_answers.specs.Told.{bare_reply, refusal_number};
-ghost use Rattle.base_side.specs.Step.{onward};
-ghost use Rattle.host_state.specs.State.{next_by, is_finished, is_ready, envelope_of, with_shake, with_sender, with_taker, with_side, with_outgoing, with_incoming, with_counts, fresh};
-ghost use Rattle.host_state.specs.Side.{is_idle, text_or_closing, refuse};
+ghost use Rattle.host_state.specs.State.{is_finished, is_ready, envelope_of, with_shake, with_sender, with_taker, with_side, side_of, with_outgoing, with_incoming, with_counts, fresh};
+ghost use Rattle.host_state.specs.Side.{is_idle, text_or_closing, may_begin};
+ghost use Rattle.host_state.specs.declared.state.Side.TheVariants.{Idle};
 
-use base_answers::{Refusal, Reply, Said};
+use base_answers::Refusal;
 use base_area::{Area, Ring};
-use base_side::Cursor;
-
-// The last address of 32 bits.
-const MOST_ADDRESS: usize = 4294967295;
+use base_side::{Cursor, Half};
 
 // What a beginning is given: exponents, IE, vector/4 and the ring base.
-#[derive(Clone, Copy, Drop)]
+#[derive(Clone, Copy, PartialEq, Eq, Debug)]
 pub struct Beginning {
     pub command: u8,
     pub response: u8,
@@ -22,17 +18,17 @@ pub struct Beginning {
     pub base: u32,
 }
 
-// The four steps of the handshake.
-#[derive(Clone, Copy, Drop)]
+// The four steps of the handshake, each with its bit among SA's four step bits.
+#[derive(Clone, Copy, PartialEq, Eq, Debug)]
 pub enum Step {
-    One,
-    Two,
-    Three,
-    Four,
+    One = 1,
+    Two = 2,
+    Three = 4,
+    Four = 8,
 }
 
 // Where the handshake stands: dead, expecting a step (and whether IP was written a second time), or finished.
-#[derive(Clone, Copy, Drop)]
+#[derive(Clone, Copy, PartialEq, Eq, Debug)]
 pub enum Shake {
     Dead,
     Expect(Step, bool),
@@ -40,7 +36,7 @@ pub enum Shake {
 }
 
 // What the host half asks of its caller in the handshake.
-#[derive(Clone, Copy, Drop)]
+#[derive(Clone, Copy, PartialEq, Eq, Debug)]
 pub enum Act {
     WriteIp,
     WriteSa(u16),
@@ -52,14 +48,14 @@ pub enum Act {
 }
 
 // What a send is asked beside its text: the flag F.
-#[derive(Clone, Copy, Drop)]
+#[derive(Clone, Copy, PartialEq, Eq, Debug, Default)]
 pub struct Asked {
     pub flag: bool,
 }
 
 // What a send or a take does next: which word of the slot or the envelope it touches. Closing is the word before the high word:
 // a send's low word, a take's 60 as length.
-#[derive(Clone, Copy, Drop)]
+#[derive(Clone, Copy, PartialEq, Eq, Debug)]
 pub enum Stage {
     High,
     Length,
@@ -70,23 +66,24 @@ pub enum Stage {
 }
 
 // "A half has two sides, each with at most one operation": the send side and the take side.
-#[derive(Clone, Copy, Drop)]
+// Kept: an enum with stage and cursor in its cases is the form that document 01 names here (docs/DECISIONS.md).
+#[derive(Clone, Copy, PartialEq, Eq, Debug)]
 pub enum Side {
     Idle,
     At(Stage, Cursor),
 }
 
 // The next slot of each side, and the credit account.
-#[derive(Clone, Copy, Drop)]
+#[derive(Clone, Copy, PartialEq, Eq, Debug, Default)]
 pub struct Counts {
     pub send: u8,
     pub take: u8,
     pub account: u8,
 }
 
-// The host. The texts stand beside the sides, since an enum holds no array; with the text of a send what it was asked, with
+// The host. The texts stand beside the sides; with the text of a send what it was asked, with
 // the text of a take the credits that its envelope carries.
-#[derive(Clone, Copy, Drop)]
+#[derive(Clone, Copy, PartialEq, Eq, Debug)]
 pub struct Host {
     pub shake: Shake,
     pub area: Area,
@@ -101,15 +98,9 @@ pub struct Host {
     pub counts: Counts,
 }
 
-// An answer, and the host after it.
-#[derive(Clone, Copy, Drop)]
-pub struct Stepped {
-    pub reply: Reply,
-    pub host: Host,
-}
-
 // What a handshake call asks, the length and the 60 bytes that every answer has, and the host after it.
-#[derive(Clone, Copy, Drop)]
+// Kept: length and bytes are two fields as in `Reply`, and the definition `turn_by` reads them.
+#[derive(Clone, Copy, PartialEq, Eq, Debug)]
 pub struct Shaken {
     pub act: Act,
     pub size: u16,
@@ -121,11 +112,7 @@ pub struct Shaken {
 pub fn finished(shake: Shake) -> bool
     ensures { result ≡ is_finished shake }
 {
-    match shake {
-        Shake::Dead => false,
-        Shake::Expect(_, _) => false,
-        Shake::Finished => true,
-    }
+    matches!(shake, Shake::Finished)
 }
 
 impl Side {
@@ -133,13 +120,11 @@ impl Side {
     pub fn is_idle(self) -> bool
         ensures { result ≡ is_idle self }
     {
-        match self {
-            Side::Idle => true,
-            Side::At(_, _) => false,
-        }
+        matches!(self, Side::Idle)
     }
 
     // Text word k next, or the word before the high word where there is none.
+    #[tactic(auto, unfolding(crate::specs::Side::text_or_closing))]
     pub fn text_or_closing(c: Cursor, k: usize) -> Side
         ensures { result ≡ text_or_closing c k }
     {
@@ -151,13 +136,31 @@ impl Side {
     }
 }
 
+impl Half for Host {
+    type Side = Side;
+
+    ghost sided = { with_side };
+
+    ghost idle = { Idle };
+
+    // Commands are sent, responses taken.
+    fn with_side(self, ring: Ring, x: Side) -> Host {
+        match ring {
+            Ring::Command => self.with_sender(x),
+            Ring::Response => self.with_taker(x),
+        }
+    }
+
+    fn idle_side() -> Side {
+        Side::Idle
+    }
+}
+
 impl Host {
     // A host at some stage of the handshake that knows only its three words.
     pub fn fresh_at(shake: Shake, area: Area) -> Host
         ensures { result ≡ fresh shake area }
     {
-        let outgoing = base_texts::blank();
-        let incoming = base_texts::blank();
         Host {
             shake,
             area,
@@ -165,109 +168,65 @@ impl Host {
             ready: false,
             sender: Side::Idle,
             taker: Side::Idle,
-            outgoing,
-            asked: Asked { flag: false },
-            incoming,
+            outgoing: base_texts::blank(),
+            asked: Asked::default(),
+            incoming: base_texts::blank(),
             credits: 0,
-            counts: Counts {
-                send: 0,
-                take: 0,
-                account: 0,
-            },
+            counts: Counts::default(),
         }
     }
 
     // Whether sends and takes may come: the handshake is finished and a setup was accepted.
+    #[tactic(auto, unfolding(crate::specs::State::is_ready))]
     pub fn is_ready(self) -> bool
         ensures { result ≡ is_ready self }
     {
-        let shake = self.shake;
-        if finished(shake) { self.ready } else { false }
+        finished(self.shake) && self.ready
     }
 
-    pub fn with_shake(self, x: Shake) -> Host
-        ensures { result ≡ with_shake self x }
-    {
-        let area = self.area;
-        let sender = self.sender;
-        let taker = self.taker;
-        let outgoing = self.outgoing;
-        let incoming = self.incoming;
-        let asked = self.asked;
-        let counts = self.counts;
-        Host {
-            shake: x,
-            area,
-            pool: self.pool,
-            ready: self.ready,
-            sender,
-            taker,
-            outgoing,
-            asked,
-            incoming,
-            credits: self.credits,
-            counts,
-        }
-    }
-
-    pub fn with_sender(self, x: Side) -> Host
-        ensures { result ≡ with_sender self x }
-    {
-        let shake = self.shake;
-        let area = self.area;
-        let taker = self.taker;
-        let outgoing = self.outgoing;
-        let incoming = self.incoming;
-        let asked = self.asked;
-        let counts = self.counts;
-        Host {
-            shake,
-            area,
-            pool: self.pool,
-            ready: self.ready,
-            sender: x,
-            taker,
-            outgoing,
-            asked,
-            incoming,
-            credits: self.credits,
-            counts,
-        }
-    }
-
-    pub fn with_taker(self, x: Side) -> Host
-        ensures { result ≡ with_taker self x }
-    {
-        let shake = self.shake;
-        let area = self.area;
-        let sender = self.sender;
-        let outgoing = self.outgoing;
-        let incoming = self.incoming;
-        let asked = self.asked;
-        let counts = self.counts;
-        Host {
-            shake,
-            area,
-            pool: self.pool,
-            ready: self.ready,
-            sender,
-            taker: x,
-            outgoing,
-            asked,
-            incoming,
-            credits: self.credits,
-            counts,
-        }
-    }
-
-    // A side by its ring: commands are sent, responses taken.
-    pub fn with_side(self, ring: Ring, x: Side) -> Host
-        ensures { result ≡ with_side self ring x }
+    // The side of a ring.
+    pub fn side(self, ring: Ring) -> Side
+        ensures { result ≡ side_of self ring }
     {
         match ring {
-            Ring::Command => self.with_sender(x),
-            Ring::Response => self.with_taker(x),
+            Ring::Command => self.sender,
+            Ring::Response => self.taker,
         }
+    }
+
+    // Whether a side may begin an operation.
+    pub fn may_begin(self, ring: Ring) -> Result<(), Refusal>
+        ensures { result ≡ may_begin self ring }
+    {
+        if !self.is_ready() {
+            return Err(Refusal::NotRunning);
+        }
+        if !self.side(ring).is_idle() {
+            return Err(Refusal::Busy);
+        }
+        Ok(())
+    }
+
+    // Kept: a method for each definition `with_..`, so that a contract names what changes and nothing else.
+    pub fn with_shake(mut self, x: Shake) -> Host
+        ensures { result ≡ with_shake self x }
+    {
+        self.shake = x;
+        self
+    }
+
+    pub fn with_sender(mut self, x: Side) -> Host
+        ensures { result ≡ with_sender self x }
+    {
+        self.sender = x;
+        self
+    }
+
+    pub fn with_taker(mut self, x: Side) -> Host
+        ensures { result ≡ with_taker self x }
+    {
+        self.taker = x;
+        self
     }
 
     // A text to be sent, and what was asked of it.
@@ -299,46 +258,19 @@ impl Host {
     pub fn envelope_of(self, ring: Ring, i: u8) -> u32
         ensures { result ≡ envelope_of self ring i }
     {
-        let area = self.area;
-        let a = area.envelope_at(self.pool, ring, i);
-        if a < MOST_ADDRESS {
-            a as u32
-        } else {
-            4294967295
-        }
-    }
-
-    // The host with an answer that carries no text.
-    pub fn replies(self, said: Said) -> Stepped
-        ensures { result ≡ record { reply = bare_reply said false; host = self } }
-    {
-        let reply = base_answers::bare(said, false);
-        Stepped { reply, host: self }
-    }
-
-    // A side's operation goes on.
-    pub fn goes(self, ring: Ring, x: Side) -> Stepped
-        ensures { next_by result ≡ onward (with_side self ring x) }
-    {
-        self.with_side(ring, x).replies(Said::Going)
-    }
-
-    // A side's operation is refused, and ends.
-    pub fn refused(self, ring: Ring, x: Refusal) -> Stepped
-        ensures { next_by result ≡ refuse self ring (refusal_number x) }
-    {
-        self.with_side(ring, Side::Idle).replies(Said::Refused(x))
+        self.area
+            .envelope_at(self.pool, ring, i)
+            .min(u32::MAX as usize) as u32
     }
 
     // The host with what the handshake asks; it carries no text.
     pub fn asks(self, act: Act) -> Shaken
         ensures { result ≡ record { act = act; size = 0; bytes = zeros; host = self } }
     {
-        let bytes = base_texts::blank();
         Shaken {
             act,
             size: 0,
-            bytes,
+            bytes: base_texts::blank(),
             host: self,
         }
     }

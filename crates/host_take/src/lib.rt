@@ -3,36 +3,21 @@
 
 ghost use Rattle.std.specs.Prelude.{◌≡◌};
 ghost use Rattle.base_words.specs.Words.{address_bits};
-ghost use Rattle.base_side.specs.Step.{with_memory};
-ghost use Rattle.host_state.specs.State.{next_by};
-ghost use Rattle.host_state.specs.Take.{take_asks, take_high, take_header, take_text, take_closed, take_finds, take_follows, take_step, take_begun};
+ghost use Rattle.base_area.specs.declared.Ring.TheVariants.{Response};
+ghost use Rattle.base_side.specs.Step.{next_by, with_memory};
+ghost use Rattle.host_state.specs.Take.{take_asks, take_high, take_header, take_text, take_closed, take_finds, take_step, take_begun};
 
 use base_answers::{Refusal, Said};
 use base_area::Ring;
-use base_memory::{Touch, Word};
-use base_rules::Fault;
-use base_side::Cursor;
+use base_memory::Touch;
+use base_side::{Cursor, Half, Stepped};
 use base_words::{descriptor, header};
-use host_state::state::{Host, Side, Stage, Stepped};
+use host_state::operation::Operation;
+use host_state::state::{Host, Side, Stage};
 
-// The word that a stage of a take asks for.
-fn take_asks(host: Host, stage: Stage, c: Cursor) -> Touch
-    ensures { result ≡ take_asks address_bits host stage c }
-{
-    let area = host.area;
-    let slot = area.slot_at(Ring::Response, c.slot);
-    let envelope = c.envelope as usize;
-    match stage {
-        Stage::High => Touch::Read(slot + 2),
-        Stage::Length => Touch::Read(envelope),
-        Stage::Header => Touch::Read(envelope + 2),
-        Stage::Text => Touch::Read(envelope + 4 + 2 * (c.at as usize)),
-        Stage::Closing => Touch::Write(envelope, base_texts::LENGTH),
-        Stage::Release => Touch::Write(slot + 2, descriptor::high_word(true, true, c.high)),
-    }
-}
-
-fn take_high(host: Host, c: Cursor, v: u16) -> Stepped
+// After the slot's high word: refusal 7 where the port owns the slot.
+#[tactic(auto, unfolding(host_state::specs::Take::take_high))]
+fn take_high(host: Host, c: Cursor, v: u16) -> Stepped<Host>
     ensures { next_by result ≡ take_high host c v }
 {
     if descriptor::port_owns(v) {
@@ -42,26 +27,25 @@ fn take_high(host: Host, c: Cursor, v: u16) -> Stepped
     }
 }
 
-fn take_header(host: Host, c: Cursor, v: u16) -> Stepped
+// After the header: refusal 9, or the credits that the envelope carries are kept.
+#[tactic(auto, unfolding(host_state::specs::Take::take_header))]
+fn take_header(host: Host, c: Cursor, v: u16) -> Stepped<Host>
     ensures { next_by result ≡ take_header host c v }
 {
-    let fault = base_rules::fault_of(header::type_of(v), header::connection_of(v), c.size);
     let credits = header::credits_of(v);
-    match fault {
-        Fault::Unsound(_) => host.refused(Ring::Response, Refusal::BadEnvelope),
-        Fault::Sound => {
-            if host.counts.account as u16 + credits as u16 <= base_rules::MOST_ACCOUNT {
-                let text = host.incoming;
-                let host = host.with_incoming(text, credits);
-                host.goes(Ring::Response, Side::text_or_closing(c, 0))
-            } else {
-                host.refused(Ring::Response, Refusal::BadEnvelope)
-            }
-        }
+    let fault = base_rules::fault_of(header::type_of(v), header::connection_of(v), c.size);
+    let account = host.counts.account as u16 + credits as u16;
+    if fault.is_err() || base_rules::MOST_ACCOUNT < account {
+        return host.refused(Ring::Response, Refusal::BadEnvelope);
     }
+    let host = host.with_incoming(host.incoming, credits);
+    host.goes(Ring::Response, Side::text_or_closing(c, 0))
 }
 
-fn take_text(mut host: Host, c: Cursor, v: u16) -> Stepped
+// After a text word: it is put in.
+// Kept: three lines, as in the port's `fetch_text`; one function for both would need a half's text and its next side in `Half`.
+#[tactic(auto, unfolding(host_state::specs::Take::take_text))]
+fn take_text(mut host: Host, c: Cursor, v: u16) -> Stepped<Host>
     ensures { next_by result ≡ take_text host c v }
 {
     base_texts::put_word(&mut host.incoming, c.size, c.at, v);
@@ -70,49 +54,62 @@ fn take_text(mut host: Host, c: Cursor, v: u16) -> Stepped
 }
 
 // The take ends with its text.
-fn take_closed(host: Host, c: Cursor) -> Stepped
+#[tactic(auto, unfolding(host_state::specs::Take::take_closed))]
+fn take_closed(host: Host, c: Cursor) -> Stepped<Host>
     ensures { next_by result ≡ take_closed host c }
 {
-    let bytes = host.incoming;
-    let reply = base_answers::full(c.size, bytes, false);
-    let host = host.taken_one(c).with_taker(Side::Idle);
-    Stepped { reply, host }
-}
-
-// What follows from the word that a stage found.
-fn take_finds(host: Host, stage: Stage, c: Cursor, v: u16) -> Stepped
-    ensures { next_by result ≡ take_finds host stage c v }
-{
-    match stage {
-        Stage::High => take_high(host, c, v),
-        Stage::Length => host.goes(Ring::Response, Side::At(Stage::Header, c.with_size(v))),
-        Stage::Header => take_header(host, c, v),
-        Stage::Text => take_text(host, c, v),
-        Stage::Closing => host.goes(Ring::Response, Side::At(Stage::Release, c)),
-        Stage::Release => take_closed(host, c),
+    Stepped {
+        reply: base_answers::full(c.size, host.incoming, false),
+        half: host.taken_one(c).with_taker(Side::Idle),
     }
 }
 
-// What follows from the word found, or from none.
-fn take_follows(host: Host, stage: Stage, c: Cursor, w: Word) -> Stepped
-    ensures { next_by result ≡ take_follows host stage c w }
-{
-    match w {
-        Word::Outside => host.refused(Ring::Response, Refusal::DoesNotFit),
-        Word::Value(v) => take_finds(host, stage, c, v),
+struct Take;
+
+impl Operation for Take {
+    ghost its_ring = { Response };
+
+    ghost its_words = { take_asks address_bits };
+
+    ghost its_way = { take_finds };
+
+    fn ring() -> Ring {
+        Ring::Response
+    }
+
+    #[tactic(auto, unfolding(host_state::specs::Take::take_asks))]
+    fn asks(host: Host, stage: Stage, c: Cursor) -> Touch {
+        let slot = host.area.slot_at(Ring::Response, c.slot);
+        let envelope = c.envelope as usize;
+        match stage {
+            Stage::High => Touch::Read(slot + 2),
+            Stage::Length => Touch::Read(envelope),
+            Stage::Header => Touch::Read(envelope + 2),
+            Stage::Text => Touch::Read(envelope + 4 + 2 * c.at as usize),
+            Stage::Closing => Touch::Write(envelope, base_texts::LENGTH),
+            Stage::Release => Touch::Write(slot + 2, descriptor::high_word(true, true, c.high)),
+        }
+    }
+
+    fn finds(host: Host, stage: Stage, c: Cursor, v: u16) -> Stepped<Host> {
+        match stage {
+            Stage::High => take_high(host, c, v),
+            Stage::Length => host.goes(Ring::Response, Side::At(Stage::Header, c.with_size(v))),
+            Stage::Header => take_header(host, c, v),
+            Stage::Text => take_text(host, c, v),
+            Stage::Closing => host.goes(Ring::Response, Side::At(Stage::Release, c)),
+            Stage::Release => take_closed(host, c),
+        }
     }
 }
 
 // Begins a take.
-pub fn begin_take(host: Host) -> Stepped
+#[tactic(auto, unfolding(host_state::specs::Take::take_begun, host_state::specs::Side::host_begun))]
+pub fn begin_take(host: Host) -> Stepped<Host>
     ensures { next_by result ≡ take_begun host }
 {
-    if !host.is_ready() {
-        return host.replies(Said::Refused(Refusal::NotRunning));
-    }
-    let side = host.taker;
-    if !side.is_idle() {
-        return host.replies(Said::Refused(Refusal::Busy));
+    if let Err(refusal) = host.may_begin(Ring::Response) {
+        return host.replies(Said::Refused(refusal));
     }
     let slot = host.counts.take;
     let c = Cursor::start(slot, host.envelope_of(Ring::Response, slot), 0);
@@ -121,18 +118,9 @@ pub fn begin_take(host: Host) -> Stepped
 }
 
 // One step of the take side: it touches one word at most.
-pub fn step_take(host: Host, mem: &mut [u8]) -> Stepped
+#[tactic(auto, unfolding(host_state::specs::Take::take_step, host_state::specs::Take::take_follows))]
+pub fn step_take(host: Host, mem: &mut [u8]) -> Stepped<Host>
     ensures { with_memory (next_by result) mem.new ≡ take_step address_bits host mem.old }
 {
-    if !host.is_ready() {
-        return host.refused(Ring::Response, Refusal::NotRunning);
-    }
-    let side = host.taker;
-    match side {
-        Side::Idle => host.refused(Ring::Response, Refusal::IdleSide),
-        Side::At(stage, c) => {
-            let w = base_memory::touched(mem, take_asks(host, stage, c));
-            take_follows(host, stage, c, w)
-        }
-    }
+    Take::step(host, mem)
 }

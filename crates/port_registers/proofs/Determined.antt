@@ -3,8 +3,9 @@
 use Prim.Native.Nat.{ℕ}
 use mathlib.Core.Path.{◌≡◌, sym, ◌∙◌}
 use Rattle.port_state.specs.declared.state.Port.{Port}
-use Rattle.port_state.specs.declared.state.Stepped.{Stepped}
-use Rattle.port_state.proofs.Determined.{outcome_same}
+use Rattle.base_side.specs.declared.Stepped.{Stepped}
+use Rattle.port_state.specs.declared.state.Port.{Port}
+use Rattle.base_side.proofs.StepLaws.{outcome_same}
 use Rattle.port_registers.proofs.write_ip.Reads as write_ip
 use Rattle.port_registers.proofs.sa.Reads as sa
 use Rattle.port_registers.proofs.write_sa.Reads as write_sa
@@ -17,5 +18,5 @@ pub sa_determined : (κs : _) (d : _) (r r' : ℕ) (x x' : _) → sa.Post κs d 
 sa_determined κs d r r' x x' p q = p ∙ sym q
 
 -- A write to SA: answer, next state and every byte of the lent memory at exit.
-pub write_sa_determined : (κs : _) (d : _) (r r' : Stepped) (x x' : _) → write_sa.Post κs d r x → write_sa.Post κs d r' x' → (r ≡ r') × (x.1.1.0.now ≡ x'.1.1.0.now)
+pub write_sa_determined : (κs : _) (d : _) (r r' : Stepped Port) (x x' : _) → write_sa.Post κs d r x → write_sa.Post κs d r' x' → (r ≡ r') × (x.1.1.0.now ≡ x'.1.1.0.now)
 write_sa_determined κs d r r' x x' p q = outcome_same r r' x.1.1.0.now x'.1.1.0.now (p ∙ sym q)

@@ -1,4 +1,1 @@
-pub mod StateLaws
-pub mod TailLaws
-pub mod SideLaws
 pub mod Determined

@@ -1,33 +1,26 @@
 -- "Fetch: read high word; low word; length; header; text words; write high word with O=0, F=1", then the tail if F was 1.
-use Rattle.std.specs.Prelude.{ℕ, ◌+◌, ◌*◌, ◌-◌, min, Bool, true, false, cond, ◌&&◌, leb, ltb}
-use Rattle.base_words.specs.Fields.{of, is_set, owner, flagged, connection, message_type}
+use Rattle.std.specs.Prelude.{ℕ, ◌+◌, ◌*◌, ◌-◌, min, Bool, true, false, cond, ◌&&◌, leb, ltb, Option, Result, Ok, Err}
+use Rattle.base_words.specs.Fields.{of, is_set, flagged, connection, message_type}
 use Rattle.base_words.specs.Words.{address_of, high_word}
 use Rattle.base_texts.specs.Texts.{zeros, words_of, with_text}
 use Rattle.base_memory.specs.Memory.{Memory}
-use Rattle.base_memory.specs.declared.Word.{Word}
-use Rattle.base_memory.specs.declared.Word.TheVariants.{Value, Outside}
 use Rattle.base_memory.specs.declared.Touch.{Touch}
 use Rattle.base_memory.specs.declared.Touch.TheVariants.{Read, Write}
 use Rattle.base_answers.specs.Told.{carried}
 use Rattle.base_answers.specs.declared.Fatal.{Fatal}
-use Rattle.base_answers.specs.declared.Fatal.TheVariants.{EnvelopeRead, RingRead, RingWrite, CreditLimit}
+use Rattle.base_answers.specs.declared.Fatal.TheVariants.{EnvelopeRead, CreditLimit}
 use Rattle.base_rules.specs.Rules.{fault_of}
-use Rattle.base_rules.specs.declared.Fault.{Fault}
-use Rattle.base_rules.specs.declared.Fault.TheVariants.{Sound, Unsound}
 use Rattle.base_area.specs.Layout.{slot_at, next_of}
 use Rattle.base_area.specs.declared.Area.{Area}
 use Rattle.base_area.specs.declared.Ring.TheVariants.{Command}
-use Rattle.base_side.specs.Place.{start_of, with_high, with_envelope, with_size}
+use Rattle.base_side.specs.Place.{start_of, with_envelope, with_size}
 use Rattle.base_side.specs.Step.{Next, Outcome, onward}
 use Rattle.base_side.specs.declared.Cursor.{Cursor}
 use Rattle.port_state.specs.State.{serving_of, with_fetcher, with_incoming, with_counts, fail}
-use Rattle.port_state.specs.Tail.{tail_start}
-use Rattle.port_state.specs.Side.{text_or_release, refuse, port_step, port_begun}
+use Rattle.port_state.specs.Tail.{TailEnd, tail_start}
+use Rattle.port_state.specs.Side.{text_or_release, outside_as, looked, followed, tailed_on, port_step, port_begun}
 use Rattle.port_state.specs.declared.state.Stage.{Stage}
 use Rattle.port_state.specs.declared.state.Stage.TheVariants.{High, Low, Length, Header, Text, Release}
-use Rattle.port_state.specs.declared.state.TailStage.TheVariants.{Mark}
-use Rattle.port_state.specs.declared.state.TailEnd.{TailEnd}
-use Rattle.port_state.specs.declared.state.TailEnd.TheVariants.{Onward, Closed, Broken}
 use Rattle.port_state.specs.declared.state.Side.TheVariants.{Idle, At, Tail}
 use Rattle.port_state.specs.declared.state.Port.{Port}
 
@@ -42,16 +35,11 @@ fetch_asks n a Release c = Write (slot_at n a Command c.slot + 2) (high_word fal
 
 -- Where that word lies outside: "A ring read outside is 6, a ring write outside 7"; "an envelope word gives 1".
 abbrev pub fetch_outside : Stage → Fatal
-fetch_outside High = RingRead
-fetch_outside Low = RingRead
-fetch_outside Length = EnvelopeRead
-fetch_outside Header = EnvelopeRead
-fetch_outside Text = EnvelopeRead
-fetch_outside Release = RingWrite
+fetch_outside s = outside_as EnvelopeRead s
 
 -- Refusal 7: "fetch's first step, O=0".
 unfoldable pub fetch_high : Port → Cursor → ℕ → Next Port
-fetch_high p c v = cond (is_set owner v) (onward (with_fetcher p (At Low (with_high c v)))) (refuse p Command 7)
+fetch_high p c v = looked p Command 7 c v
 
 -- "after the low word, the four bytes from text-4 outside memory, 1". The cursor keeps where the envelope starts, text-4.
 unfoldable pub fetch_low : ℕ → Port → ℕ → Cursor → ℕ → Next Port
@@ -66,15 +54,20 @@ abbrev pub credit_out : Port → Bool
 credit_out p = ltb (p.counts.owed + p.counts.unanswered) p.made.limit
 
 -- "after the header, type not 0, 20; connection not 0, 14; length over 60, 20; the text's words outside memory, 1; no credit out, 10".
-abbrev pub header_sound : Port → ℕ → Cursor → Fault → Next Port
-header_sound p end c (Unsound x) = fail p x
-header_sound p end c Sound =
+abbrev pub header_sound : Port → ℕ → Cursor → Result (Unit {0}) Fatal → Next Port
+header_sound p end c (Err x) = fail p x
+header_sound p end c (Ok u) =
     cond (leb (c.envelope + 4 + 2 * words_of c.size) end)
     (cond (credit_out p) (onward (with_fetcher p (text_or_release c 0))) (fail p CreditLimit))
     (fail p EnvelopeRead)
 
 unfoldable pub fetch_header : Port → ℕ → Cursor → ℕ → Next Port
 fetch_header p end c v = header_sound p end c (fault_of (of message_type v) (of connection v) c.size)
+
+-- What a judged header leads to.
+abbrev pub header_ended : Port → Cursor → Result (Unit {0}) Fatal → Next Port
+header_ended p c (Err x) = fail p x
+header_ended p c (Ok u) = onward (with_fetcher p (text_or_release c 0))
 
 unfoldable pub fetch_text : Port → Cursor → ℕ → Next Port
 fetch_text p c v = onward (with_fetcher (with_incoming p (with_text p.incoming c.size c.at v)) (text_or_release c (c.at + 1)))
@@ -104,14 +97,11 @@ fetch_finds n p a end Text c v = fetch_text p c v
 fetch_finds n p a end Release c v = fetch_release p a c
 
 -- or from none; and from a tail step.
-unfoldable pub fetch_follows : ℕ → Port → Area → ℕ → Stage → Cursor → Word → Next Port
-fetch_follows n p a end s c Outside = fail p (fetch_outside s)
-fetch_follows n p a end s c (Value v) = fetch_finds n p a end s c v
+unfoldable pub fetch_follows : ℕ → Port → Area → ℕ → Stage → Cursor → Option ℕ → Next Port
+fetch_follows n p a end s c w = followed p (fetch_outside s) (fetch_finds n p a end s c) w
 
 unfoldable pub fetch_tailed : Port → Cursor → TailEnd → Next Port
-fetch_tailed p c Onward = onward (with_fetcher p (Tail Mark c))
-fetch_tailed p c (Closed i) = fetch_closed p c i
-fetch_tailed p c (Broken x) = fail p x
+fetch_tailed p c x = tailed_on p Command (fetch_closed p) c x
 
 -- A step of the fetch side, and its beginning.
 unfoldable pub fetch_step : ℕ → Port → Memory → Outcome Port

@@ -1,33 +1,28 @@
 -- "Post: read high word; low word; write length; header (credits, other bits 0); text words; high word with O=0, F=1",
 -- then the tail if F was 1.
-use Rattle.std.specs.Prelude.{ℕ, ◌+◌, ◌*◌, ◌-◌, Bool, true, false, cond, ◌&&◌, List, leb, eqb, length}
-use Rattle.base_words.specs.Fields.{is_set, owner, flagged}
+use Rattle.std.specs.Prelude.{ℕ, ◌+◌, ◌*◌, ◌-◌, Bool, true, false, cond, ◌&&◌, List, leb, eqb, length, Option}
+use Rattle.base_words.specs.Fields.{is_set, flagged}
 use Rattle.base_words.specs.Words.{address_of, high_word, header_word}
 use Rattle.base_texts.specs.Texts.{words_of, room, word_of, padded}
 use Rattle.base_memory.specs.Memory.{Memory}
-use Rattle.base_memory.specs.declared.Word.{Word}
-use Rattle.base_memory.specs.declared.Word.TheVariants.{Value, Outside}
 use Rattle.base_memory.specs.declared.Touch.{Touch}
 use Rattle.base_memory.specs.declared.Touch.TheVariants.{Read, Write}
 use Rattle.base_answers.specs.Told.{told, done}
 use Rattle.base_answers.specs.declared.Fatal.{Fatal}
-use Rattle.base_answers.specs.declared.Fatal.TheVariants.{EnvelopeWrite, RingRead, RingWrite}
+use Rattle.base_answers.specs.declared.Fatal.TheVariants.{EnvelopeWrite}
 use Rattle.base_rules.specs.Rules.{carried_of, left_of}
 use Rattle.base_area.specs.Layout.{slot_at, next_of}
 use Rattle.base_area.specs.declared.Area.{Area}
 use Rattle.base_area.specs.declared.Ring.TheVariants.{Response}
-use Rattle.base_side.specs.Place.{start_of, with_high, with_envelope}
+use Rattle.base_side.specs.Place.{start_of, with_envelope}
 use Rattle.base_side.specs.Step.{Next, Outcome, onward, denied}
 use Rattle.base_side.specs.declared.Cursor.{Cursor}
 use Rattle.port_state.specs.State.{serving_of, with_poster, with_outgoing, with_counts, fail}
-use Rattle.port_state.specs.Tail.{tail_start}
-use Rattle.port_state.specs.Side.{text_or_release, refuse, port_step, port_begun}
+use Rattle.port_state.specs.Tail.{TailEnd, tail_start}
+use Rattle.port_state.specs.Side.{text_or_release, outside_as, looked, followed, tailed_on, port_step, port_begun}
 use Rattle.port_state.specs.declared.state.Asked.{Asked}
 use Rattle.port_state.specs.declared.state.Stage.{Stage}
 use Rattle.port_state.specs.declared.state.Stage.TheVariants.{High, Low, Length, Header, Text, Release}
-use Rattle.port_state.specs.declared.state.TailStage.TheVariants.{Mark}
-use Rattle.port_state.specs.declared.state.TailEnd.{TailEnd}
-use Rattle.port_state.specs.declared.state.TailEnd.TheVariants.{Onward, Closed, Broken}
 use Rattle.port_state.specs.declared.state.Side.TheVariants.{Idle, At, Tail}
 use Rattle.port_state.specs.declared.state.Port.{Port}
 
@@ -46,16 +41,11 @@ post_asks n p a Release c = Write (slot_at n a Response c.slot + 2) (high_word f
 
 -- Where that word lies outside: 6 for a ring read, 7 for a ring write, 2 for an envelope word.
 abbrev pub post_outside : Stage → Fatal
-post_outside High = RingRead
-post_outside Low = RingRead
-post_outside Length = EnvelopeWrite
-post_outside Header = EnvelopeWrite
-post_outside Text = EnvelopeWrite
-post_outside Release = RingWrite
+post_outside s = outside_as EnvelopeWrite s
 
 -- Refusal 8: "post's first step, O=0".
 unfoldable pub post_high : Port → Cursor → ℕ → Next Port
-post_high p c v = cond (is_set owner v) (onward (with_poster p (At Low (with_high c v)))) (refuse p Response 8)
+post_high p c v = looked p Response 8 c v
 
 -- "Post checks, after the low word, from text-4 to its last text word: outside, 2."
 unfoldable pub post_low : ℕ → Port → ℕ → Cursor → ℕ → Next Port
@@ -94,14 +84,11 @@ post_finds n p a end Text c v = onward (with_poster p (text_or_release c (c.at +
 post_finds n p a end Release c v = post_release p a c
 
 -- or from none; and from a tail step.
-unfoldable pub post_follows : ℕ → Port → Area → ℕ → Stage → Cursor → Word → Next Port
-post_follows n p a end s c Outside = fail p (post_outside s)
-post_follows n p a end s c (Value v) = post_finds n p a end s c v
+unfoldable pub post_follows : ℕ → Port → Area → ℕ → Stage → Cursor → Option ℕ → Next Port
+post_follows n p a end s c w = followed p (post_outside s) (post_finds n p a end s c) w
 
 unfoldable pub post_tailed : Port → Cursor → TailEnd → Next Port
-post_tailed p c Onward = onward (with_poster p (Tail Mark c))
-post_tailed p c (Closed i) = post_closed p i
-post_tailed p c (Broken x) = fail p x
+post_tailed p c x = tailed_on p Response (λ d. post_closed p) c x
 
 -- A step of the post side, and its beginning with a text, as an answer or unsolicited: after 1 and 2, refusals 3 and 4.
 unfoldable pub post_step : ℕ → Port → Memory → Outcome Port

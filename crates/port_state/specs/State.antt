@@ -1,8 +1,9 @@
 -- The port's record with some of its fields changed, and what its calls share.
-use Rattle.std.specs.Prelude.{ℕ, ◌-◌, false, List}
+use Rattle.std.specs.Prelude.{ℕ, ◌-◌, false, List, Option, Some, None}
 use Rattle.base_texts.specs.Texts.{zeros}
-use Rattle.base_answers.specs.Told.{told, told_of, fatal, fatal_number}
+use Rattle.base_answers.specs.Told.{told, fatal, fatal_number}
 use Rattle.base_answers.specs.declared.Fatal.{Fatal}
+use Rattle.base_area.specs.declared.Area.{Area}
 use Rattle.base_area.specs.declared.Ring.{Ring}
 use Rattle.base_area.specs.declared.Ring.TheVariants.{Command, Response}
 use Rattle.base_side.specs.Step.{Next}
@@ -11,26 +12,19 @@ use Rattle.port_state.specs.declared.state.Asked.{Asked}
 use Rattle.port_state.specs.declared.state.Counts.{Counts}
 use Rattle.port_state.specs.declared.state.Phase.{Phase}
 use Rattle.port_state.specs.declared.state.Phase.TheVariants.{Step1, Wrap, Step2, Step3, Step4, Running, Failed}
-use Rattle.port_state.specs.declared.state.Serving.{Serving}
-use Rattle.port_state.specs.declared.state.Serving.TheVariants.{Off, On}
 use Rattle.port_state.specs.declared.state.Side.{Side}
 use Rattle.port_state.specs.declared.state.Side.TheVariants.{Idle}
 use Rattle.port_state.specs.declared.state.Port.{Port}
-use Rattle.port_state.specs.declared.state.Stepped.{Stepped}
-
--- What the code returned, in the terms of the definitions.
-abbrev pub next_by : Stepped → Next Port
-next_by r = record { told = told_of r.reply; state = r.port }
 
 -- Whether the port runs, and the area that it then serves.
-abbrev pub serving_of : Phase → Serving
-serving_of Step1 = Off
-serving_of (Wrap w) = Off
-serving_of (Step2 f) = Off
-serving_of (Step3 f s) = Off
-serving_of (Step4 a) = Off
-serving_of (Running a w) = On a
-serving_of (Failed x) = Off
+abbrev pub serving_of : Phase → Option Area
+serving_of Step1 = None
+serving_of (Wrap w) = None
+serving_of (Step2 f) = None
+serving_of (Step3 f s) = None
+serving_of (Step4 a) = None
+serving_of (Running a w) = Some a
+serving_of (Failed x) = None
 
 -- The record with some fields changed.
 abbrev pub with_phase : Port → Phase → Port
@@ -49,6 +43,10 @@ with_poster p x =
 abbrev pub with_side : Port → Ring → Side → Port
 with_side p Command x = with_fetcher p x
 with_side p Response x = with_poster p x
+
+abbrev pub side_of : Port → Ring → Side
+side_of p Command = p.fetcher
+side_of p Response = p.poster
 
 abbrev pub with_incoming : Port → List ℕ → Port
 with_incoming p x =

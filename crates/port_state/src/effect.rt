@@ -9,42 +9,28 @@ use base_side::Cursor;
 
 impl Port {
     // The slot is given up: the next slot is the fetch side's, and one more command is open.
+    #[tactic(auto, unfolding(crate::specs::Fetch::fetched))]
     pub fn fetched_one(self, area: Area, c: Cursor) -> Port
         ensures { result ≡ fetched self area c }
     {
-        let open = self.counts.unanswered;
-        let more = if open < 255 { open + 1 } else { 255 };
-        let counts = Counts {
+        self.with_counts(Counts {
             fetch: area.next(Ring::Command, c.slot),
-            post: self.counts.post,
-            owed: self.counts.owed,
-            unanswered: more,
-        };
-        self.with_counts(counts)
+            unanswered: self.counts.unanswered.saturating_add(1),
+            ..self.counts
+        })
     }
 
     // The slot is given up: the next slot is the post side's; an answer closes a command and grants what it carries.
+    #[tactic(auto, unfolding(crate::specs::Post::posted))]
     pub fn posted_one(self, area: Area, c: Cursor) -> Port
         ensures { result ≡ posted self area c }
     {
-        let next = area.next(Ring::Response, c.slot);
-        let owed = self.counts.owed;
-        let open = self.counts.unanswered;
-        let fetch = self.counts.fetch;
+        let mut counts = self.counts;
+        counts.post = area.next(Ring::Response, c.slot);
         if self.asked.answers {
-            let closed = if open > 0 { open - 1 } else { 0 };
-            return self.with_counts(Counts {
-                fetch,
-                post: next,
-                owed: base_rules::left_of(owed),
-                unanswered: closed,
-            });
+            counts.owed = base_rules::left_of(counts.owed);
+            counts.unanswered = counts.unanswered.saturating_sub(1);
         }
-        self.with_counts(Counts {
-            fetch,
-            post: next,
-            owed,
-            unanswered: open,
-        })
+        self.with_counts(counts)
     }
 }

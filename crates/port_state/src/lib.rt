@@ -4,5 +4,6 @@
 
 pub mod create;
 pub mod effect;
+pub mod operation;
 pub mod state;
 pub mod tail;

@@ -1,15 +1,17 @@
-ghost use Rattle.std.specs.Prelude.{◌≡◌, false};
-ghost use Rattle.base_answers.specs.Told.{bare_reply, refusal_number};
-ghost use Rattle.base_side.specs.Step.{onward};
-ghost use Rattle.port_state.specs.Side.{is_idle, text_or_release, refuse};
-ghost use Rattle.port_state.specs.State.{next_by, serving_of, with_phase, with_fetcher, with_poster, with_side, with_incoming, with_outgoing, with_counts, fresh, ended, fail};
+ghost use Rattle.std.specs.Prelude.{◌≡◌};
+ghost use Rattle.port_state.specs.Side.{is_idle, text_or_release, outside_as, looked, may_begin};
+ghost use Rattle.port_state.specs.State.{serving_of, with_phase, with_fetcher, with_poster, with_side, side_of, with_incoming, with_outgoing, with_counts, fresh, ended, fail};
+ghost use Rattle.base_answers.specs.Told.{refusal_number};
+ghost use Rattle.base_side.specs.Step.{next_by};
+ghost use Rattle.port_state.specs.declared.state.Side.TheVariants.{Idle};
 
-use base_answers::{Fatal, Refusal, Reply, Said};
+use base_answers::{Fatal, Refusal, Said};
 use base_area::{Area, Ring};
-use base_side::Cursor;
+use base_side::{Cursor, Half, Stepped};
+use base_words::descriptor;
 
 // What creation gave: kept through every write to IP.
-#[derive(Clone, Copy, Drop)]
+#[derive(Clone, Copy, PartialEq, Eq, Debug, Default)]
 pub struct Made {
     pub nv: bool,
     pub qb: bool,
@@ -20,7 +22,7 @@ pub struct Made {
 
 // Where the port stands: the handshake's steps with the host's words so far, wrap, running, or a fatal error.
 // Running keeps the word with GO.
-#[derive(Clone, Copy, Drop)]
+#[derive(Clone, Copy, PartialEq, Eq, Debug)]
 pub enum Phase {
     Step1,
     Wrap(u16),
@@ -31,15 +33,8 @@ pub enum Phase {
     Failed(Fatal),
 }
 
-// Whether the port runs, and the area that it then serves.
-#[derive(Clone, Copy, Drop)]
-pub enum Serving {
-    Off,
-    On(Area),
-}
-
 // What a fetch or a post does next: which word of the slot or the envelope it touches.
-#[derive(Clone, Copy, Drop)]
+#[derive(Clone, Copy, PartialEq, Eq, Debug)]
 pub enum Stage {
     High,
     Low,
@@ -50,22 +45,15 @@ pub enum Stage {
 }
 
 // What the tail of a fetch or a post does next: the previous slot's test, or the indicator.
-#[derive(Clone, Copy, Drop)]
+#[derive(Clone, Copy, PartialEq, Eq, Debug)]
 pub enum TailStage {
     Test,
     Mark,
 }
 
-// What a tail step comes to: the indicator next, the end with or without an interrupt, or a fatal error.
-#[derive(Clone, Copy, Drop)]
-pub enum TailEnd {
-    Onward,
-    Closed(bool),
-    Broken(Fatal),
-}
-
 // "A half has two sides, each with at most one operation": the fetch side and the post side.
-#[derive(Clone, Copy, Drop)]
+// Kept: an enum with stage and cursor in its cases is the form that document 01 names here (docs/DECISIONS.md).
+#[derive(Clone, Copy, PartialEq, Eq, Debug)]
 pub enum Side {
     Idle,
     At(Stage, Cursor),
@@ -73,13 +61,13 @@ pub enum Side {
 }
 
 // What a post is asked beside its text: whether it answers a command.
-#[derive(Clone, Copy, Drop)]
+#[derive(Clone, Copy, PartialEq, Eq, Debug, Default)]
 pub struct Asked {
     pub answers: bool,
 }
 
 // The next slot of each side, the credits still to grant, and the commands fetched and not answered.
-#[derive(Clone, Copy, Drop)]
+#[derive(Clone, Copy, PartialEq, Eq, Debug, Default)]
 pub struct Counts {
     pub fetch: u8,
     pub post: u8,
@@ -87,8 +75,8 @@ pub struct Counts {
     pub unanswered: u8,
 }
 
-// The port. The texts stand beside the sides, since an enum holds no array, and with the text of a post what it was asked.
-#[derive(Clone, Copy, Drop)]
+// The port. The texts stand beside the sides, and with the text of a post what it was asked.
+#[derive(Clone, Copy, PartialEq, Eq, Debug)]
 pub struct Port {
     pub made: Made,
     pub phase: Phase,
@@ -100,25 +88,26 @@ pub struct Port {
     pub counts: Counts,
 }
 
-// An answer, and the port after it.
-#[derive(Clone, Copy, Drop)]
-pub struct Stepped {
-    pub reply: Reply,
-    pub port: Port,
-}
-
-// Whether a port in some phase runs.
-pub fn serving_of(phase: Phase) -> Serving
+// The area that a port serves in some phase, if it runs.
+pub fn serving_of(phase: Phase) -> Option<Area>
     ensures { result ≡ serving_of phase }
 {
     match phase {
-        Phase::Step1 => Serving::Off,
-        Phase::Wrap(_) => Serving::Off,
-        Phase::Step2(_) => Serving::Off,
-        Phase::Step3(_, _) => Serving::Off,
-        Phase::Step4(_) => Serving::Off,
-        Phase::Running(a, _) => Serving::On(a),
-        Phase::Failed(_) => Serving::Off,
+        Phase::Running(area, _) => Some(area),
+        _ => None,
+    }
+}
+
+impl Stage {
+    // The fatal error of a stage whose word lies outside; that of an envelope's word is its side's.
+    pub fn outside(self, envelope: Fatal) -> Fatal
+        ensures { result ≡ outside_as envelope self }
+    {
+        match self {
+            Stage::High | Stage::Low => Fatal::RingRead,
+            Stage::Length | Stage::Header | Stage::Text => envelope,
+            Stage::Release => Fatal::RingWrite,
+        }
     }
 }
 
@@ -127,14 +116,11 @@ impl Side {
     pub fn is_idle(self) -> bool
         ensures { result ≡ is_idle self }
     {
-        match self {
-            Side::Idle => true,
-            Side::At(_, _) => false,
-            Side::Tail(_, _) => false,
-        }
+        matches!(self, Side::Idle)
     }
 
     // Text word k next, or the release where there is none.
+    #[tactic(auto, unfolding(crate::specs::Side::text_or_release))]
     pub fn text_or_release(c: Cursor, k: usize) -> Side
         ensures { result ≡ text_or_release c k }
     {
@@ -146,105 +132,76 @@ impl Side {
     }
 }
 
+impl Half for Port {
+    type Side = Side;
+
+    ghost sided = { with_side };
+
+    ghost idle = { Idle };
+
+    // Commands are fetched, responses posted.
+    fn with_side(self, ring: Ring, x: Side) -> Port {
+        match ring {
+            Ring::Command => self.with_fetcher(x),
+            Ring::Response => self.with_poster(x),
+        }
+    }
+
+    fn idle_side() -> Side {
+        Side::Idle
+    }
+}
+
 impl Port {
     // A port in Step 1 that knows only what creation gave.
     pub fn new(made: Made) -> Port
         ensures { result ≡ fresh made }
     {
-        let owed = if made.limit > 0 { made.limit - 1 } else { 0 };
-        let incoming = base_texts::blank();
-        let outgoing = base_texts::blank();
         Port {
             made,
             phase: Phase::Step1,
             fetcher: Side::Idle,
             poster: Side::Idle,
-            incoming,
-            outgoing,
-            asked: Asked { answers: false },
+            incoming: base_texts::blank(),
+            outgoing: base_texts::blank(),
+            asked: Asked::default(),
             counts: Counts {
-                fetch: 0,
-                post: 0,
-                owed,
-                unanswered: 0,
+                owed: made.limit.saturating_sub(1),
+                ..Counts::default()
             },
         }
     }
 
-    pub fn with_phase(self, x: Phase) -> Port
-        ensures { result ≡ with_phase self x }
-    {
-        let made = self.made;
-        let fetcher = self.fetcher;
-        let poster = self.poster;
-        let incoming = self.incoming;
-        let outgoing = self.outgoing;
-        let asked = self.asked;
-        let counts = self.counts;
-        Port {
-            made,
-            phase: x,
-            fetcher,
-            poster,
-            incoming,
-            outgoing,
-            asked,
-            counts,
-        }
-    }
-
-    pub fn with_fetcher(self, x: Side) -> Port
-        ensures { result ≡ with_fetcher self x }
-    {
-        let made = self.made;
-        let phase = self.phase;
-        let poster = self.poster;
-        let incoming = self.incoming;
-        let outgoing = self.outgoing;
-        let asked = self.asked;
-        let counts = self.counts;
-        Port {
-            made,
-            phase,
-            fetcher: x,
-            poster,
-            incoming,
-            outgoing,
-            asked,
-            counts,
-        }
-    }
-
-    pub fn with_poster(self, x: Side) -> Port
-        ensures { result ≡ with_poster self x }
-    {
-        let made = self.made;
-        let phase = self.phase;
-        let fetcher = self.fetcher;
-        let incoming = self.incoming;
-        let outgoing = self.outgoing;
-        let asked = self.asked;
-        let counts = self.counts;
-        Port {
-            made,
-            phase,
-            fetcher,
-            poster: x,
-            incoming,
-            outgoing,
-            asked,
-            counts,
-        }
-    }
-
-    // A side by its ring: commands are fetched, responses posted.
-    pub fn with_side(self, ring: Ring, x: Side) -> Port
-        ensures { result ≡ with_side self ring x }
+    // The side of a ring.
+    pub fn side(self, ring: Ring) -> Side
+        ensures { result ≡ side_of self ring }
     {
         match ring {
-            Ring::Command => self.with_fetcher(x),
-            Ring::Response => self.with_poster(x),
+            Ring::Command => self.fetcher,
+            Ring::Response => self.poster,
         }
+    }
+
+    // Kept: a method for each definition `with_..`, so that a contract names what changes and nothing else.
+    pub fn with_phase(mut self, x: Phase) -> Port
+        ensures { result ≡ with_phase self x }
+    {
+        self.phase = x;
+        self
+    }
+
+    pub fn with_fetcher(mut self, x: Side) -> Port
+        ensures { result ≡ with_fetcher self x }
+    {
+        self.fetcher = x;
+        self
+    }
+
+    pub fn with_poster(mut self, x: Side) -> Port
+        ensures { result ≡ with_poster self x }
+    {
+        self.poster = x;
+        self
     }
 
     pub fn with_incoming(mut self, x: [u8; 60]) -> Port
@@ -255,25 +212,12 @@ impl Port {
     }
 
     // A text to be posted, and what was asked of it.
-    pub fn with_outgoing(self, x: [u8; 60], asked: Asked) -> Port
+    pub fn with_outgoing(mut self, x: [u8; 60], asked: Asked) -> Port
         ensures { result ≡ with_outgoing self x asked }
     {
-        let made = self.made;
-        let phase = self.phase;
-        let fetcher = self.fetcher;
-        let poster = self.poster;
-        let incoming = self.incoming;
-        let counts = self.counts;
-        Port {
-            made,
-            phase,
-            fetcher,
-            poster,
-            incoming,
-            outgoing: x,
-            asked,
-            counts,
-        }
+        self.outgoing = x;
+        self.asked = asked;
+        self
     }
 
     pub fn with_counts(mut self, x: Counts) -> Port
@@ -283,26 +227,26 @@ impl Port {
         self
     }
 
-    // The port with an answer that carries no text.
-    pub fn replies(self, said: Said) -> Stepped
-        ensures { result ≡ record { reply = bare_reply said false; port = self } }
+    // Whether a side may begin an operation.
+    pub fn may_begin(self, ring: Ring) -> Result<(), Refusal>
+        ensures { result ≡ may_begin self ring }
     {
-        let reply = base_answers::bare(said, false);
-        Stepped { reply, port: self }
+        serving_of(self.phase).ok_or(Refusal::NotRunning)?;
+        if !self.side(ring).is_idle() {
+            return Err(Refusal::Busy);
+        }
+        Ok(())
     }
 
-    // A side's operation goes on.
-    pub fn goes(self, ring: Ring, x: Side) -> Stepped
-        ensures { next_by result ≡ onward (with_side self ring x) }
+    // A side's first step: the port owns the slot, or a refusal ends the operation.
+    pub fn looks(self, ring: Ring, otherwise: Refusal, c: Cursor, v: u16) -> Stepped<Port>
+        ensures { next_by result ≡ looked self ring (refusal_number otherwise) c v }
     {
-        self.with_side(ring, x).replies(Said::Going)
-    }
-
-    // A side's operation is refused, and ends.
-    pub fn refused(self, ring: Ring, x: Refusal) -> Stepped
-        ensures { next_by result ≡ refuse self ring (refusal_number x) }
-    {
-        self.with_side(ring, Side::Idle).replies(Said::Refused(x))
+        if descriptor::port_owns(v) {
+            self.goes(ring, Side::At(Stage::Low, c.with_high(v)))
+        } else {
+            self.refused(ring, otherwise)
+        }
     }
 
     // Both sides end, and SA shows the code from now on.
@@ -315,7 +259,7 @@ impl Port {
     }
 
     // A fatal error.
-    pub fn failed(self, x: Fatal) -> Stepped
+    pub fn failed(self, x: Fatal) -> Stepped<Port>
         ensures { next_by result ≡ fail self x }
     {
         self.ended(x).replies(Said::Failed(x))

@@ -1,158 +1,122 @@
-// The items of a printed state: `name=value`. One whose value is 0 is left out, so that a state that gets a field is printed as before
-// where that field is 0. A state is a row of numbers; what each is called, and of what kind it is, stands in two lists.
-use crate::part;
+// The items of a printed state: ` name=value`. One whose value is 0, or a text of zeros, is left out, so that a state that gets a field
+// is printed as before where that field is 0.
+use crate::text;
+use crate::text::Digits;
+use base_area::Area;
 use base_side::Cursor;
+use std::fmt;
 
-// The values that have a name, by their place in the list of `named`.
-pub const STEP1: u64 = 1;
-
-pub const STEP2: u64 = 2;
-
-pub const STEP3: u64 = 3;
-
-pub const STEP4: u64 = 4;
-
-pub const WRAP: u64 = 5;
-
-pub const RUNNING: u64 = 6;
-
-pub const FATAL: u64 = 7;
-
-pub const DEAD: u64 = 8;
-
-pub const EXPECT: u64 = 9;
-
-pub const FINISHED: u64 = 10;
-
-pub const HIGH: u64 = 11;
-
-pub const LOW: u64 = 12;
-
-pub const LENGTH: u64 = 13;
-
-pub const HEADER: u64 = 14;
-
-pub const TEXT: u64 = 15;
-
-pub const RELEASE: u64 = 16;
-
-pub const TEST: u64 = 17;
-
-pub const MARK: u64 = 18;
-
-pub const REFILL: u64 = 19;
-
-fn named(out: &mut [u8; 65536], at: usize, n: u64) -> usize {
-    part::nth(
-        out,
-        at,
-        b"idle,step1,step2,step3,step4,wrap,running,fatal,dead,expect,finished,high,low,length,header,text,release,test,mark,refill",
-        n as usize,
-    )
+// A number, a word of memory or of a register, or some bytes.
+#[derive(Clone, Copy)]
+enum Value<'a> {
+    Number(u32),
+    Word(u16),
+    Bytes(&'a [u8]),
 }
 
-// A value of a kind: `#` a number, `$` a word, `=` one that has a name, `<` so many bytes of the first text and `>` of the second.
-fn value(
-    out: &mut [u8; 65536],
-    at: usize,
-    kind: u8,
-    n: u64,
-    first: &[u8; 60],
-    second: &[u8; 60],
-) -> usize {
-    match kind {
-        b'#' => part::digits(out, at, n),
-        b'$' => part::four(out, at, (n % 65536) as u16),
-        b'=' => named(out, at, n),
-        b'<' => part::all_two(out, at, first, n as usize),
-        _ => part::all_two(out, at, second, n as usize),
-    }
+// An item of a half itself, or of one of its sides: `name` or `side.name`.
+#[derive(Clone, Copy)]
+pub(crate) struct Item<'a> {
+    side: Option<&'static str>,
+    name: &'static str,
+    value: Value<'a>,
 }
 
-// An item's name, and what stands before and after it.
-fn name(out: &mut [u8; 65536], at: usize, names: &[u8], i: usize) -> usize {
-    let a = part::put(out, at, b' ');
-    let b = part::nth(out, a, names, i);
-    part::put(out, b, b'=')
-}
-
-// The items of a state.
-pub fn items(
-    out: &mut [u8; 65536],
-    start: usize,
-    names: &[u8],
-    kinds: &[u8],
-    values: &[u64],
-    first: &[u8; 60],
-    second: &[u8; 60],
-) -> usize {
-    let mut at = start;
-    let mut i = 0;
-    while i < values.len() {
-        if kinds.len() <= i {
-            return at;
+impl<'a> Item<'a> {
+    fn new(name: &'static str, value: Value<'a>) -> Item<'a> {
+        Item {
+            side: None,
+            name,
+            value,
         }
-        let n = values[i];
-        if n != 0 {
-            let k = name(out, at, names, i);
-            at = value(out, k, kinds[i], n, first, second);
+    }
+
+    fn of(self, side: &'static str) -> Item<'a> {
+        Item {
+            side: Some(side),
+            ..self
         }
-        i += 1;
-    }
-    at
-}
-
-// A bit as a number.
-pub fn bit(b: bool) -> u64 {
-    if b { 1 } else { 0 }
-}
-
-// A bit of a side; 0 if the side is idle.
-pub fn of_busy(stage: u64, b: bool) -> u64 {
-    if stage == 0 {
-        return 0;
-    }
-    bit(b)
-}
-
-// A side: what its next step touches, and where its operation stands; all 0 if it is idle.
-#[derive(Clone, Copy, Drop)]
-pub struct Stand {
-    pub stage: u64,
-    pub slot: u64,
-    pub high: u64,
-    pub envelope: u64,
-    pub size: u64,
-    pub at: u64,
-}
-
-pub fn idle() -> Stand {
-    Stand {
-        stage: 0,
-        slot: 0,
-        high: 0,
-        envelope: 0,
-        size: 0,
-        at: 0,
     }
 }
 
-// The number of the text word next touched says something at the stage `text` alone.
-pub fn stand_at(stage: u64, c: Cursor) -> Stand {
-    Stand {
-        stage,
-        slot: c.slot as u64,
-        high: c.high as u64,
-        envelope: c.envelope as u64,
-        size: c.size as u64,
-        at: if stage == TEXT { c.at as u64 } else { 0 },
+pub(crate) fn number(name: &'static str, n: impl Into<u32> + Drop) -> Item<'static> {
+    Item::new(name, Value::Number(n.into()))
+}
+
+pub(crate) fn word(name: &'static str, w: u16) -> Item<'static> {
+    Item::new(name, Value::Word(w))
+}
+
+impl fmt::Display for Item<'_> {
+    fn fmt<W: fmt::Write>(&self, f: &mut fmt::Formatter<W>) -> fmt::Result {
+        if let Value::Number(0) | Value::Word(0) | Value::Bytes([]) = self.value {
+            return Ok(());
+        }
+        write!(f, " ")?;
+        if let Some(side) = self.side {
+            write!(f, "{side}.")?;
+        }
+        let name = self.name;
+        match self.value {
+            Value::Number(n) => write!(f, "{name}={n}"),
+            Value::Word(w) => write!(f, "{name}={w:04x}"),
+            Value::Bytes(bytes) => write!(f, "{name}={}", Digits(bytes)),
+        }
     }
 }
 
-// How many bytes of a side's text are printed; none if the side is idle.
-pub fn extent(stage: u64, text: &[u8; 60]) -> u64 {
-    if stage == 0 {
-        return 0;
+// The words that the host writes in Steps 1 to 3.
+#[derive(Clone, Copy)]
+pub(crate) struct Words(pub Area);
+
+impl fmt::Display for Words {
+    fn fmt<W: fmt::Write>(&self, f: &mut fmt::Formatter<W>) -> fmt::Result {
+        let Area {
+            first,
+            second,
+            third,
+        } = self.0;
+        let first = word("first", first);
+        let second = word("second", second);
+        let third = word("third", third);
+        write!(f, "{first}{second}{third}")
     }
-    part::extent(text) as u64
+}
+
+// A side at work: its name, what its next step touches, where its operation stands, what goes with the text, and the text.
+#[derive(Clone, Copy)]
+pub(crate) struct AtWork<'a> {
+    pub side: &'static str,
+    pub stage: &'static str,
+    pub cursor: Cursor,
+    pub beside: Option<Item<'static>>,
+    pub text: &'a [u8],
+}
+
+impl fmt::Display for AtWork<'_> {
+    fn fmt<W: fmt::Write>(&self, f: &mut fmt::Formatter<W>) -> fmt::Result {
+        let AtWork {
+            side,
+            stage,
+            cursor,
+            beside,
+            text,
+        } = *self;
+        write!(f, " {side}={stage}")?;
+        let place = [
+            number("slot", cursor.slot),
+            word("high", cursor.high),
+            number("envelope", cursor.envelope),
+            number("size", cursor.size),
+            number("at", cursor.at),
+        ];
+        for item in place {
+            write!(f, "{}", item.of(side))?;
+        }
+        if let Some(item) = beside {
+            write!(f, "{}", item.of(side))?;
+        }
+        let read = Item::new("text", Value::Bytes(text::before_zeros(text)));
+        write!(f, "{}", read.of(side))
+    }
 }

@@ -1,12 +1,10 @@
-// What the programs share: standard input and output, and what docs/SCRIPTS.md prints, answers, states and sums, put into a buffer one
-// after the other. Each part starts with a space, so that a line is its number, a colon, its parts and a line end. A full buffer takes
-// no more.
+// What the programs print, as docs/SCRIPTS.md says: answers, states, texts and sums. Each type is a value with the way in which it is
+// written, so that a line is one `writeln!`.
 #![tactic(auto)]
 
 pub mod answer;
-pub mod item;
+mod item;
 pub mod of_host;
 pub mod of_port;
-pub mod part;
-pub mod standard;
 pub mod sum;
+mod text;

@@ -1,178 +1,103 @@
 // The state of a port.
-use crate::item::Stand;
-use crate::{item, part};
-use port_state::state::{Counts, Phase, Port, Side, Stage, TailStage};
-
-// What a phase is called and holds; 0 for what it does not hold.
-#[derive(Clone, Copy, Drop)]
-struct Held {
-    name: u64,
-    fatal: u16,
-    shown: u16,
-    first: u16,
-    second: u16,
-    third: u16,
-    go: u16,
-}
-
-// A phase with the words that the host wrote, so far.
-fn wrote(name: u64, first: u16, second: u16, third: u16, go: u16) -> Held {
-    Held {
-        name,
-        fatal: 0,
-        shown: 0,
-        first,
-        second,
-        third,
-        go,
-    }
-}
-
-// A phase in which no word of the host's counts.
-fn lone(name: u64, fatal: u16, shown: u16) -> Held {
-    Held {
-        name,
-        fatal,
-        shown,
-        first: 0,
-        second: 0,
-        third: 0,
-        go: 0,
-    }
-}
-
-fn held_in(x: Phase) -> Held {
-    match x {
-        Phase::Step1 => lone(item::STEP1, 0, 0),
-        Phase::Wrap(shown) => lone(item::WRAP, 0, shown),
-        Phase::Step2(first) => wrote(item::STEP2, first, 0, 0, 0),
-        Phase::Step3(first, second) => wrote(item::STEP3, first, second, 0, 0),
-        Phase::Step4(area) => wrote(item::STEP4, area.first, area.second, area.third, 0),
-        Phase::Running(area, go) => wrote(item::RUNNING, area.first, area.second, area.third, go),
-        Phase::Failed(f) => lone(item::FATAL, base_answers::code(f), 0),
-    }
-}
-
-fn stage(x: Stage) -> u64 {
-    match x {
-        Stage::High => item::HIGH,
-        Stage::Low => item::LOW,
-        Stage::Length => item::LENGTH,
-        Stage::Header => item::HEADER,
-        Stage::Text => item::TEXT,
-        Stage::Release => item::RELEASE,
-    }
-}
-
-fn tail(x: TailStage) -> u64 {
-    match x {
-        TailStage::Test => item::TEST,
-        TailStage::Mark => item::MARK,
-    }
-}
-
-// Where a side stands, if the port runs.
-fn side(running: bool, x: Side) -> Stand {
-    if !running {
-        return item::idle();
-    }
-    match x {
-        Side::Idle => item::idle(),
-        Side::At(s, c) => item::stand_at(stage(s), c),
-        Side::Tail(t, c) => item::stand_at(tail(t), c),
-    }
-}
-
-// The counts of a port, if it runs.
-fn counts(running: bool, x: Counts) -> Counts {
-    if running {
-        return x;
-    }
-    Counts {
-        fetch: 0,
-        post: 0,
-        owed: 0,
-        unanswered: 0,
-    }
-}
-
-// The items of a port itself.
-fn own(out: &mut [u8; 65536], at: usize, p: Port) -> usize {
-    let m = p.made;
-    let phase = p.phase;
-    let h = held_in(phase);
-    let c = counts(h.name == item::RUNNING, p.counts);
-    let none = [0u8; 60];
-    let values = [
-        item::bit(m.nv),
-        item::bit(m.qb),
-        item::bit(m.di),
-        m.version as u64,
-        m.limit as u64,
-        h.name,
-        h.fatal as u64,
-        h.shown as u64,
-        h.first as u64,
-        h.second as u64,
-        h.third as u64,
-        h.go as u64,
-        c.fetch as u64,
-        c.post as u64,
-        c.owed as u64,
-        c.unanswered as u64,
-    ];
-    item::items(
-        out,
-        at,
-        b"nv,qb,di,version,limit,phase,fatal,shown,first,second,third,go,fetch-slot,post-slot,owed,unanswered",
-        b"#####=#$$$$$####",
-        &values,
-        &none,
-        &none,
-    )
-}
-
-// The items of its sides.
-fn sides(out: &mut [u8; 65536], at: usize, p: Port) -> usize {
-    let phase = p.phase;
-    let fetcher = p.fetcher;
-    let poster = p.poster;
-    let incoming = p.incoming;
-    let outgoing = p.outgoing;
-    let h = held_in(phase);
-    let f = side(h.name == item::RUNNING, fetcher);
-    let o = side(h.name == item::RUNNING, poster);
-    let values = [
-        f.stage,
-        f.slot,
-        f.high,
-        f.envelope,
-        f.size,
-        f.at,
-        item::extent(f.stage, &incoming),
-        o.stage,
-        o.slot,
-        o.high,
-        o.envelope,
-        o.size,
-        o.at,
-        item::of_busy(o.stage, p.asked.answers),
-        item::extent(o.stage, &outgoing),
-    ];
-    item::items(
-        out,
-        at,
-        b"fetch,fetch.slot,fetch.high,fetch.envelope,fetch.size,fetch.at,fetch.text,post,post.slot,post.high,post.envelope,post.size,post.at,post.answers,post.text",
-        b"=#$###<=#$####>",
-        &values,
-        &incoming,
-        &outgoing,
-    )
-}
+use crate::item::{AtWork, Words, number, word};
+use base_side::Cursor;
+use port_state::state::{Made, Phase, Port, Side, Stage, TailStage};
+use std::fmt;
 
 // A port: what creation gave, where it stands, and its sides.
-pub fn state(out: &mut [u8; 65536], at: usize, p: Port) -> usize {
-    let a = part::name(out, at, b"port");
-    let b = own(out, a, p);
-    sides(out, b, p)
+#[derive(Clone, Copy)]
+pub struct State<'a>(pub &'a Port);
+
+impl fmt::Display for State<'_> {
+    fn fmt<W: fmt::Write>(&self, f: &mut fmt::Formatter<W>) -> fmt::Result {
+        let port = self.0;
+        write!(f, "port{} phase=", Created(port.made))?;
+        match port.phase {
+            Phase::Step1 => write!(f, "step1"),
+            Phase::Wrap(shown) => write!(f, "wrap{}", word("shown", shown)),
+            Phase::Step2(first) => write!(f, "step2{}", word("first", first)),
+            Phase::Step3(first, second) => {
+                write!(f, "step3{}{}", word("first", first), word("second", second))
+            }
+            Phase::Step4(area) => write!(f, "step4{}", Words(area)),
+            Phase::Running(area, go) => {
+                write!(f, "running{}{}", Words(area), word("go", go))?;
+                counts(port, f)?;
+                sides(port, f)
+            }
+            Phase::Failed(e) => write!(f, "fatal{}", number("fatal", u16::from(e))),
+        }
+    }
+}
+
+// What creation gave.
+#[derive(Clone, Copy)]
+struct Created(Made);
+
+impl fmt::Display for Created {
+    fn fmt<W: fmt::Write>(&self, f: &mut fmt::Formatter<W>) -> fmt::Result {
+        let made = self.0;
+        let nv = number("nv", made.nv);
+        let qb = number("qb", made.qb);
+        let di = number("di", made.di);
+        let version = number("version", made.version);
+        let limit = number("limit", made.limit);
+        write!(f, "{nv}{qb}{di}{version}{limit}")
+    }
+}
+
+fn counts<W: fmt::Write>(port: &Port, f: &mut fmt::Formatter<W>) -> fmt::Result {
+    let fetch = number("fetch-slot", port.counts.fetch);
+    let post = number("post-slot", port.counts.post);
+    let owed = number("owed", port.counts.owed);
+    let unanswered = number("unanswered", port.counts.unanswered);
+    write!(f, "{fetch}{post}{owed}{unanswered}")
+}
+
+// Each side with an operation.
+fn sides<W: fmt::Write>(port: &Port, f: &mut fmt::Formatter<W>) -> fmt::Result {
+    if let Some((stage, cursor)) = stand_of(port.fetcher) {
+        let fetch = AtWork {
+            side: "fetch",
+            stage,
+            cursor,
+            beside: None,
+            text: &port.incoming,
+        };
+        write!(f, "{fetch}")?;
+    }
+    if let Some((stage, cursor)) = stand_of(port.poster) {
+        let post = AtWork {
+            side: "post",
+            stage,
+            cursor,
+            beside: Some(number("answers", port.asked.answers)),
+            text: &port.outgoing,
+        };
+        write!(f, "{post}")?;
+    }
+    Ok(())
+}
+
+// What a side's next step touches, and where its operation stands. The number of a text word says something at the stage `text` alone.
+fn stand_of(side: Side) -> Option<(&'static str, Cursor)> {
+    match side {
+        Side::Idle => None,
+        Side::At(Stage::Text, cursor) => Some(("text", cursor)),
+        Side::At(stage, cursor) => Some((name_of(stage), cursor.with_at(0))),
+        Side::Tail(TailStage::Test, cursor) => Some(("test", cursor.with_at(0))),
+        Side::Tail(TailStage::Mark, cursor) => Some(("mark", cursor.with_at(0))),
+    }
+}
+
+// Kept beside the host's: each half has stages of its own.
+fn name_of(stage: Stage) -> &'static str {
+    match stage {
+        Stage::High => "high",
+        Stage::Low => "low",
+        Stage::Length => "length",
+        Stage::Header => "header",
+        Stage::Text => "text",
+        Stage::Release => "release",
+    }
 }

@@ -1,51 +1,49 @@
 // The bytes lent and their sum: FNV-1a of 32 bits.
-use crate::part;
+ghost use Rattle.std.specs.Prelude.{◌≡◌, length};
+ghost use Rattle.program_saying.specs.Sum.{sum_from};
+ghost use Rattle.program_saying.specs.declared.sum.TheConstants.{START};
+
+use std::fmt;
 
 // What the sum starts at.
 pub const START: u32 = 2166136261;
 
-fn wide(b: u8) -> u32 {
-    b as u32
-}
-
-fn either(sum: u32, b: u32) -> u32 {
-    sum ^ b
-}
-
-fn times(x: u32) -> u32 {
-    (x as u64 * 16777619 % 4294967296) as u32
-}
-
-// The sum with one more byte.
-fn with_byte(sum: u32, b: u8) -> u32 {
-    times(either(sum, wide(b)))
-}
+// What it is multiplied by.
+const PRIME: u32 = 16777619;
 
 // The sum with some more bytes.
-pub fn with_bytes(start: u32, s: &[u8]) -> u32 {
-    let mut sum = start;
-    let mut i = 0;
-    while i < s.len() {
-        sum = with_byte(sum, s[i]);
-        i += 1;
-    }
-    sum
-}
-
-// A length that a script can lend.
-fn length_of(n: usize) -> u32 {
-    if n < 262400 { n as u32 } else { 262400 }
-}
-
-// A sum, in eight digits.
-pub fn shown(out: &mut [u8; 65536], at: usize, sum: u32) -> usize {
-    let k = part::word(out, at, (sum / 65536) as u16);
-    part::four(out, k, (sum % 65536) as u16)
+pub fn with_bytes(start: u32, bytes: &[u8]) -> u32
+    ensures { result ≡ sum_from start bytes.now }
+{
+    bytes.iter().fold(
+        start,
+        |sum, byte| (sum ^ u32::from(*byte)).wrapping_mul(PRIME),
+    )
 }
 
 // How many bytes are lent, and their sum.
-pub fn memory(out: &mut [u8; 65536], at: usize, mem: &[u8]) -> usize {
-    let sum = with_bytes(START, mem);
-    let k = part::number(out, at, length_of(mem.len()));
-    shown(out, k, sum)
+#[derive(Clone, Copy, PartialEq, Eq, Debug)]
+pub struct Memory {
+    pub lent: usize,
+    pub sum: u32,
+}
+
+impl Memory {
+    pub fn of(bytes: &[u8]) -> Memory
+        ensures lent { result.lent ≡ length bytes.now }
+        ensures sum { result.sum ≡ sum_from START bytes.now }
+    {
+        Memory {
+            lent: bytes.len(),
+            sum: with_bytes(START, bytes),
+        }
+    }
+}
+
+// The sum in eight digits.
+impl fmt::Display for Memory {
+    fn fmt<W: fmt::Write>(&self, f: &mut fmt::Formatter<W>) -> fmt::Result {
+        let Memory { lent, sum } = *self;
+        write!(f, "{lent} {sum:08x}")
+    }
 }

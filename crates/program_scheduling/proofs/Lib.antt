@@ -1,4 +1,1 @@
-pub mod MachineLaws
-pub mod OpeningLaws
 pub mod DriveLaws
-pub mod ScheduleLaws

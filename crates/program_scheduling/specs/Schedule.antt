@@ -1,5 +1,5 @@
 -- The whole program between its input and its line.
-use Rattle.std.specs.Prelude.{ℕ, ◌/◌, ◌%◌, Bool, true, false, cond, ◌&&◌, List, length, drop, ◌==◌, nat_le, slice_index}
+use Rattle.std.specs.Prelude.{ℕ, ◌/◌, ◌%◌, Bool, cond, ◌&&◌, List, length, drop, ◌==◌, nat_le, slice_index, Option, Some, None}
 use Rattle.base_memory.specs.Memory.{Memory}
 use Rattle.port_state.specs.Shake.{sa_of}
 use Rattle.program_scheduling.specs.Machine.{Stand}
@@ -8,12 +8,12 @@ use Rattle.program_scheduling.specs.Drive.{bytes_turns}
 use Rattle.program_scheduling.specs.declared.Line.{Line}
 use Rattle.program_scheduling.specs.declared.machine.Machine.{Machine}
 
--- A line, and every byte of memory.
+-- The line, or none where `refused` is printed, and every byte of memory.
 pub record Report : Type 0 where
-  pub line : Line
+  pub line : Option Line
   pub memory : Memory
 
-abbrev pub reported : Line → Memory → Report
+abbrev pub reported : Option Line → Memory → Report
 reported r m = record { line = r; memory = m }
 
 -- A byte of the input; 0 past its end.
@@ -38,15 +38,10 @@ unfoldable pub takes : List ℕ → Bool
 takes input =
     nat_le 2 (length input) && nat_le (length input) 4096 && zero_bits input == 0 && nat_le 1 (limit_of input) && nat_le (limit_of input) 64
 
-abbrev pub refused_line : Line
-refused_line =
-    record { refused = true; sent = 0; fetched = 0; answered = 0; taken = 0; account = 0; owed = 0; command = 0; response = 0; sa = 0 }
-
 -- "the four operation counts, the host's account, credits still to grant, indicator writes (command, response), SA".
 abbrev pub line_of : Machine → Line
 line_of x =
     record {
-      refused = false;
       sent = x.tally.sent;
       fetched = x.tally.fetched;
       answered = x.tally.answered;
@@ -59,10 +54,10 @@ line_of x =
     }
 
 abbrev pub ended_at : Stand → Report
-ended_at x = reported (line_of x.machine) x.memory
+ended_at x = reported (Some (line_of x.machine)) x.memory
 
 unfoldable pub run_of : List ℕ → Memory → Report
 run_of input m =
     cond (takes input)
     (ended_at (bytes_turns (drop 2 input) (started_by (command_of input) (response_of input) (limit_of input) m)))
-    (reported refused_line m)
+    (reported None m)

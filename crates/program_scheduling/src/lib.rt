@@ -1,20 +1,20 @@
-// Document 01, "The schedule program": both halves driven over one memory by a schedule of bytes, and the line that it prints.
+// Document 01, "The schedule program": both halves driven over one memory by a schedule of bytes, and the numbers that it prints.
 // Every call is total: any schedule, any memory, any state gets an answer.
 #![tactic(auto)]
 
 ghost use Rattle.std.specs.Prelude.{◌≡◌};
-ghost use Rattle.program_scheduling.specs.Schedule.{byte_of, takes, refused_line, line_of, reported, run_of};
+ghost use Rattle.program_scheduling.specs.Schedule.{byte_of, takes, line_of, reported, run_of};
 
 pub mod drive;
 pub mod machine;
 pub mod opening;
 
 use machine::Machine;
+use std::fmt;
 
-// The line that is printed: `refused`, or the nine numbers.
-#[derive(Clone, Copy, Drop)]
+// The nine numbers of the line that is printed.
+#[derive(Clone, Copy, PartialEq, Eq, Debug)]
 pub struct Line {
-    pub refused: bool,
     pub sent: u32,
     pub fetched: u32,
     pub answered: u32,
@@ -26,84 +26,63 @@ pub struct Line {
     pub sa: u16,
 }
 
+// The line, as it is printed.
+impl fmt::Display for Line {
+    fn fmt<W: fmt::Write>(&self, f: &mut fmt::Formatter<W>) -> fmt::Result {
+        let line = *self;
+        write!(f, "sent {} fetched {}", line.sent, line.fetched)?;
+        write!(f, " answered {} taken {}", line.answered, line.taken)?;
+        write!(f, " account {} owed {}", line.account, line.owed)?;
+        write!(f, " wakes {} {}", line.command, line.response)?;
+        write!(f, " sa {:04x}", line.sa)
+    }
+}
+
 // A byte of the input; 0 past its end.
 fn byte_of(input: &[u8], i: usize) -> u8
     ensures { result ≡ byte_of input.now i }
 {
-    if i < input.len() { input[i] } else { 0 }
+    input.get(i).copied().unwrap_or(0)
 }
 
 // Whether an input is a schedule.
+#[tactic(auto, unfolding(crate::specs::Schedule::takes))]
 fn accepted(input: &[u8]) -> bool
     ensures { result ≡ takes input.now }
 {
-    if input.len() < 2 {
-        return false;
-    }
-    if 4096 < input.len() {
-        return false;
-    }
-    if byte_of(input, 0) % 4 != 0 {
-        return false;
-    }
-    let limit = byte_of(input, 1);
-    if limit < 1 {
-        return false;
-    }
-    limit <= 64
-}
-
-// The line of a refused input.
-fn refused() -> Line
-    ensures { result ≡ refused_line }
-{
-    Line {
-        refused: true,
-        sent: 0,
-        fetched: 0,
-        answered: 0,
-        taken: 0,
-        account: 0,
-        owed: 0,
-        command: 0,
-        response: 0,
-        sa: 0,
-    }
+    (2..=4096).contains(&input.len())
+        && byte_of(input, 0) % 4 == 0
+        && (1..=64).contains(&byte_of(input, 1))
 }
 
 // The line of a machine at the schedule's end.
 fn line_of(x: Machine) -> Line
     ensures { result ≡ line_of x }
 {
-    let tally = x.tally;
-    let account = x.host.counts.account;
-    let owed = x.port.counts.owed;
-    let port = x.port;
-    let sa = port_registers::sa(port);
     Line {
-        refused: false,
-        sent: tally.sent,
-        fetched: tally.fetched,
-        answered: tally.answered,
-        taken: tally.taken,
-        account,
-        owed,
-        command: tally.command,
-        response: tally.response,
-        sa,
+        sent: x.tally.sent,
+        fetched: x.tally.fetched,
+        answered: x.tally.answered,
+        taken: x.tally.taken,
+        account: x.host.counts.account,
+        owed: x.port.counts.owed,
+        command: x.tally.command,
+        response: x.tally.response,
+        sa: port_registers::sa(x.port),
     }
 }
 
-// The schedule run on a memory.
-pub fn run(input: &[u8], mem: &mut [u8]) -> Line
+// The schedule run on a memory, and its line; no line of an input that is refused.
+#[tactic(auto, unfolding(crate::specs::Schedule::run_of))]
+pub fn run(input: &[u8], mem: &mut [u8]) -> Option<Line>
     ensures { reported result mem.new ≡ run_of input.now mem.old }
 {
     if !accepted(input) {
-        return refused();
+        return None;
     }
     let rings = byte_of(input, 0);
     let limit = byte_of(input, 1);
     let start = opening::started(rings >> 5, (rings >> 2) % 8, limit, mem);
     let end = drive::all_bytes(start, input, mem);
-    line_of(end)
+    Some(line_of(end))
 }

@@ -1,13 +1,14 @@
 ghost use Rattle.std.specs.Prelude.{◌≡◌};
 ghost use Rattle.base_answers.specs.Told.{told_of};
-ghost use Rattle.program_scheduling.specs.Machine.{counted_if, is_done, bytes_of, text_in, with_sent, with_taken, with_fetched, with_answered, kept, oldest, after_send, after_take, after_fetch, after_answer};
+ghost use Rattle.program_scheduling.specs.Machine.{counted_if, is_done, bytes_of, text_in, kept, oldest, after_send, after_take, after_fetch, after_answer};
 
 use base_answers::{Reply, Said};
+use base_side::Stepped;
 use host_state::state::Host;
 use port_state::state::Port;
 
 // How many operations are finished, and how many indicator writes were reported, by ring. Each number wraps at 2^32.
-#[derive(Clone, Copy, Drop)]
+#[derive(Clone, Copy, PartialEq, Eq, Debug, Default)]
 pub struct Tally {
     pub sent: u32,
     pub taken: u32,
@@ -18,7 +19,7 @@ pub struct Tally {
 }
 
 // Both halves, the tally, and the texts of the commands fetched: that of command number k stands at k mod 64.
-#[derive(Clone, Copy, Drop)]
+#[derive(Clone, Copy)]
 pub struct Machine {
     pub host: Host,
     pub port: Port,
@@ -27,161 +28,120 @@ pub struct Machine {
 }
 
 // A number, or the next where something is counted.
+#[tactic(auto, unfolding(crate::specs::Machine::counted_if))]
 fn counted_if(b: bool, n: u32) -> u32
     ensures { result ≡ counted_if b n }
 {
-    if b {
-        std::num::wrapping_add_u32(n, 1)
-    } else {
-        n
-    }
+    n.wrapping_add(b as u32)
 }
 
 // Whether an answer closes its operation well.
+#[tactic(auto, unfolding(crate::specs::Machine::is_done))]
 fn is_done(reply: Reply) -> bool
     ensures { result ≡ is_done (told_of reply) }
 {
-    let said = reply.said;
-    match said {
-        Said::Going => false,
-        Said::Done => true,
-        Said::Refused(_) => false,
-        Said::Failed(_) => false,
-    }
+    matches!(reply.said, Said::Done)
 }
 
 // The two bytes of a number's 16 low bits, low byte first.
+#[tactic(auto, unfolding(crate::specs::Machine::bytes_of))]
 pub fn bytes_of(n: u32) -> [u8; 2]
     ensures { result ≡ bytes_of n }
 {
-    [(n % 256) as u8, (n / 256 % 256) as u8]
+    let [low, high, ..] = n.to_le_bytes();
+    [low, high]
 }
 
 // The number that a text's first two bytes say.
+#[tactic(auto, unfolding(crate::specs::Machine::text_in))]
 fn text_in(reply: Reply) -> u16
     ensures { result ≡ text_in (told_of reply) }
 {
-    let bytes = reply.bytes;
-    base_texts::word_of(&bytes, 2, 0)
-}
-
-impl Tally {
-    fn with_sent(mut self, b: bool) -> Tally
-        ensures { result ≡ with_sent self b }
-    {
-        self.sent = counted_if(b, self.sent);
-        self
-    }
-
-    fn with_taken(mut self, b: bool) -> Tally
-        ensures { result ≡ with_taken self b }
-    {
-        self.taken = counted_if(b, self.taken);
-        self
-    }
-
-    // A step of the fetch side: a command fetched or not, and an interrupt or not.
-    fn with_fetched(mut self, b: bool, i: bool) -> Tally
-        ensures { result ≡ with_fetched self b i }
-    {
-        self.fetched = counted_if(b, self.fetched);
-        self.command = counted_if(i, self.command);
-        self
-    }
-
-    // A step of the post side: a command answered or not, and an interrupt or not.
-    fn with_answered(mut self, b: bool, i: bool) -> Tally
-        ensures { result ≡ with_answered self b i }
-    {
-        self.answered = counted_if(b, self.answered);
-        self.response = counted_if(i, self.response);
-        self
-    }
+    base_texts::word_of(&reply.bytes, 2, 0)
 }
 
 impl Machine {
     // The text of the oldest open command.
+    #[tactic(auto, unfolding(crate::specs::Machine::oldest))]
     pub fn oldest_text(self) -> u16
         ensures { result ≡ oldest self }
     {
-        let texts = self.texts;
-        let i = (self.tally.answered % 64) as usize;
-        texts[i]
+        self.texts[self.tally.answered as usize % 64]
     }
 
     // The texts with that of the command just fetched.
-    fn keeps(self, b: bool, text: u16) -> [u16; 64]
+    #[tactic(auto, unfolding(crate::specs::Machine::kept))]
+    fn keeps(mut self, b: bool, text: u16) -> [u16; 64]
         ensures { result ≡ kept self b text }
     {
-        let mut texts = self.texts;
         if b {
-            let i = (self.tally.fetched % 64) as usize;
-            texts[i] = text;
+            self.texts[self.tally.fetched as usize % 64] = text;
         }
-        texts
+        self.texts
     }
 
     // After a step of the send side.
-    pub fn after_send(self, reply: Reply, host: Host) -> Machine
-        ensures { result ≡ after_send self (told_of reply) host }
+    #[tactic(auto, unfolding(crate::specs::Machine::after_send))]
+    pub fn after_send(self, r: Stepped<Host>) -> Machine
+        ensures { result ≡ after_send self (told_of r.reply) r.half }
     {
-        let port = self.port;
-        let texts = self.texts;
-        let tally = self.tally.with_sent(is_done(reply));
+        let sent = counted_if(is_done(r.reply), self.tally.sent);
         Machine {
-            host,
-            port,
-            tally,
-            texts,
+            host: r.half,
+            tally: Tally { sent, ..self.tally },
+            ..self
         }
     }
 
     // After a step of the take side.
-    pub fn after_take(self, reply: Reply, host: Host) -> Machine
-        ensures { result ≡ after_take self (told_of reply) host }
+    // Kept: a counter each, as in the definitions `after_send` and `after_take`.
+    #[tactic(auto, unfolding(crate::specs::Machine::after_take))]
+    pub fn after_take(self, r: Stepped<Host>) -> Machine
+        ensures { result ≡ after_take self (told_of r.reply) r.half }
     {
-        let port = self.port;
-        let texts = self.texts;
-        let tally = self.tally.with_taken(is_done(reply));
+        let taken = counted_if(is_done(r.reply), self.tally.taken);
         Machine {
-            host,
-            port,
-            tally,
-            texts,
+            host: r.half,
+            tally: Tally {
+                taken,
+                ..self.tally
+            },
+            ..self
         }
     }
 
-    // After a step of the fetch side.
-    pub fn after_fetch(self, reply: Reply, port: Port) -> Machine
-        ensures { result ≡ after_fetch self (told_of reply) port }
+    // After a step of the fetch side: a command fetched or not, and an interrupt or not.
+    #[tactic(auto, unfolding(crate::specs::Machine::after_fetch))]
+    pub fn after_fetch(self, r: Stepped<Port>) -> Machine
+        ensures { result ≡ after_fetch self (told_of r.reply) r.half }
     {
-        let interrupt = reply.interrupt;
-        let text = text_in(reply);
-        let done = is_done(reply);
-        let texts = self.keeps(done, text);
-        let host = self.host;
-        let tally = self.tally.with_fetched(done, interrupt);
+        let done = is_done(r.reply);
         Machine {
-            host,
-            port,
-            tally,
-            texts,
+            port: r.half,
+            tally: Tally {
+                fetched: counted_if(done, self.tally.fetched),
+                command: counted_if(r.reply.interrupt, self.tally.command),
+                ..self.tally
+            },
+            texts: self.keeps(done, text_in(r.reply)),
+            ..self
         }
     }
 
-    // After a step of the post side.
-    pub fn after_answer(self, reply: Reply, port: Port) -> Machine
-        ensures { result ≡ after_answer self (told_of reply) port }
+    // After a step of the post side: a command answered or not, and an interrupt or not.
+    #[tactic(auto, unfolding(crate::specs::Machine::after_answer))]
+    pub fn after_answer(self, r: Stepped<Port>) -> Machine
+        ensures { result ≡ after_answer self (told_of r.reply) r.half }
     {
-        let closed = port.counts.unanswered < self.port.counts.unanswered;
-        let host = self.host;
-        let texts = self.texts;
-        let tally = self.tally.with_answered(closed, reply.interrupt);
+        let closed = r.half.counts.unanswered < self.port.counts.unanswered;
         Machine {
-            host,
-            port,
-            tally,
-            texts,
+            port: r.half,
+            tally: Tally {
+                answered: counted_if(closed, self.tally.answered),
+                response: counted_if(r.reply.interrupt, self.tally.response),
+                ..self.tally
+            },
+            ..self
         }
     }
 }

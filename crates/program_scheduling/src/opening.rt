@@ -6,71 +6,56 @@ ghost use Rattle.program_scheduling.specs.Machine.{stand};
 ghost use Rattle.program_scheduling.specs.Opening.{asked, unmet, settled, started_by};
 
 use crate::machine::{Machine, Tally};
-use host_state::state::{Act, Beginning, Host};
+use host_state::state::{Act, Beginning, Host, Shaken};
 use port_state::state::{Made, Port};
 
 // The two halves.
-#[derive(Clone, Copy, Drop)]
+#[derive(Clone, Copy)]
 pub struct Halves {
     pub host: Host,
     pub port: Port,
 }
 
 // What the host asks is done.
-fn obey(host: Host, port: Port, act: Act, mem: &mut [u8]) -> Halves
-    ensures { pair result.host result.port mem.new ≡ obeyed host port mem.old (asks_of act) }
+fn obey(r: Shaken, port: Port, mem: &mut [u8]) -> Halves
+    ensures { pair result.host result.port mem.new ≡ obeyed r.host port mem.old (asks_of r.act) }
 {
-    match act {
-        Act::WriteIp => {
-            let fresh = port_registers::write_ip(port);
-            Halves { host, port: fresh }
-        }
-        Act::WriteSa(w) => {
-            let r = port_registers::write_sa(port, w, mem);
-            let heard = r.port;
-            Halves { host, port: heard }
-        }
-        Act::Waiting => Halves { host, port },
-        Act::IsDead => Halves { host, port },
-        Act::None => Halves { host, port },
-        Act::PortFailed(_) => Halves { host, port },
-        Act::Denied(_) => Halves { host, port },
-    }
+    let host = r.host;
+    let port = match r.act {
+        Act::WriteIp => port_registers::write_ip(port),
+        Act::WriteSa(w) => port_registers::write_sa(port, w, mem).half,
+        _ => port,
+    };
+    Halves { host, port }
 }
 
 // The host begins.
-fn begins(b: Beginning, host: Host, port: Port, mem: &mut [u8]) -> Halves
-    ensures { pair result.host result.port mem.new ≡ opened b (pair host port mem.old) }
+#[tactic(auto, unfolding(fact_meeting::specs::Meeting::opened))]
+fn begins(b: Beginning, x: Halves, mem: &mut [u8]) -> Halves
+    ensures { pair result.host result.port mem.new ≡ opened b (pair x.host x.port mem.old) }
 {
-    let r = host_handshake::begin(host, b);
-    let act = r.act;
-    let begun = r.host;
-    obey(begun, port, act, mem)
+    obey(host_handshake::begin(x.host, b), x.port, mem)
 }
 
 // The host is shown SA.
+#[tactic(auto, unfolding(fact_meeting::specs::Meeting::exchange))]
 fn show(x: Halves, mem: &mut [u8]) -> Halves
     ensures { pair result.host result.port mem.new ≡ exchange (pair x.host x.port mem.old) }
 {
-    let host = x.host;
-    let port = x.port;
-    let r = host_handshake::sa_seen(host, port_registers::sa(port));
-    let act = r.act;
-    let shown = r.host;
-    obey(shown, port, act, mem)
+    let sa = port_registers::sa(x.port);
+    obey(host_handshake::sa_seen(x.host, sa), x.port, mem)
 }
 
 // .. a number of times.
+#[tactic(auto, using(crate::proofs::DriveLaws::exchanges_more), unfolding(fact_meeting::specs::Meeting::exchanges))]
 fn show_times(x: Halves, n: usize, mem: &mut [u8]) -> Halves
     ensures { pair result.host result.port mem.new ≡ exchanges n (pair x.host x.port mem.old) }
 {
-    let mut h = x;
-    let mut left = n;
-    while left > 0 {
-        h = show(h, mem);
-        left -= 1;
+    let mut x = x;
+    for _ in 0..n {
+        x = show(x, mem);
     }
-    h
+    x
 }
 
 // A host that has not begun, and a port just created.
@@ -78,16 +63,13 @@ fn apart(limit: u8) -> Halves
     ensures { result ≡ unmet limit }
 {
     let made = Made {
-        nv: false,
-        qb: false,
-        di: false,
-        version: 0,
         limit,
+        ..Made::default()
     };
-    let host = Host::new();
-    let r = Port::create(made);
-    let port = r.port;
-    Halves { host, port }
+    Halves {
+        host: Host::new(),
+        port: Port::create(made).half,
+    }
 }
 
 // What the host begins with: ring base 8, no step interrupts, and a vector, so that each indicator write is reported.
@@ -104,38 +86,24 @@ fn settings(command: u8, response: u8) -> Beginning
 }
 
 // The setup with the pool at 2048, and nothing counted yet.
+#[tactic(auto, unfolding(crate::specs::Opening::settled))]
 fn settle(x: Halves, mem: &mut [u8]) -> Machine
     ensures { stand result mem.new ≡ settled (pair x.host x.port mem.old) }
 {
-    let host = x.host;
-    let port = x.port;
-    let r = host_setup::set_up(host, 2048, mem);
-    let ready = r.host;
-    let tally = Tally {
-        sent: 0,
-        taken: 0,
-        fetched: 0,
-        answered: 0,
-        command: 0,
-        response: 0,
-    };
-    let texts = [0u16; 64];
     Machine {
-        host: ready,
-        port,
-        tally,
-        texts,
+        host: host_setup::set_up(x.host, 2048, mem).half,
+        port: x.port,
+        tally: Tally::default(),
+        texts: [0; 64],
     }
 }
 
 // The machine before its first byte: created, met in four exchanges, set up.
+#[tactic(auto, unfolding(crate::specs::Opening::started_by))]
 pub fn started(command: u8, response: u8, limit: u8, mem: &mut [u8]) -> Machine
     ensures { stand result mem.new ≡ started_by command response limit mem.old }
 {
-    let x = apart(limit);
-    let host = x.host;
-    let port = x.port;
-    let begun = begins(settings(command, response), host, port, mem);
+    let begun = begins(settings(command, response), apart(limit), mem);
     let met = show_times(begun, 4, mem);
     settle(met, mem)
 }

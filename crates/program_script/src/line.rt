@@ -1,53 +1,77 @@
-// Where lines and words end.
-ghost use Rattle.std.specs.Prelude.{◌≤◌, ◌<◌, length};
+// The words of a line.
+ghost use Rattle.std.specs.Prelude.{◌≤◌, IfOk};
 
-// The first place, from a given one on, where a byte stands; the end if it stands nowhere.
-pub fn next_of(s: &[u8], from: usize, b: u8) -> usize
-    requires { from ≤ length s.now }
-    ensures { (from ≤ result) × (result ≤ length s.now) }
-{
-    let mut i = from;
-    while i < s.len() {
-        if s[i] == b {
-            return i;
-        }
-        i += 1;
-    }
-    i
+use crate::reason::Reason;
+use crate::value;
+use crate::value::Text;
+
+// The words that are not read yet, with single spaces between them; none after the last.
+#[derive(Drop)]
+pub(crate) struct Words<'a> {
+    rest: Option<&'a [u8]>,
 }
 
-// Where the line starts that follows one: after the line feed at its end, or at the very end.
-pub fn following(s: &[u8], from: usize, end: usize) -> usize
-    requires { (from ≤ end) × (from < length s.now) }
-    ensures { (from < result) × (result ≤ length s.now) }
-{
-    if end < s.len() { end + 1 } else { s.len() }
-}
-
-// Whether a word is a name.
-pub fn same(word: &[u8], name: &[u8]) -> bool {
-    if word.len() != name.len() {
-        return false;
+impl<'a> Words<'a> {
+    pub(crate) fn new(line: &'a [u8]) -> Words<'a> {
+        Words { rest: Some(line) }
     }
-    let mut i = 0;
-    while i < word.len() {
-        if word[i] != name[i] {
-            return false;
-        }
-        i += 1;
-    }
-    true
-}
 
-// Where a line ends: before the CR of a line that ends with CR LF.
-pub fn end_of(line: &[u8]) -> usize
-    ensures { result ≤ length line.now }
-{
-    let n = line.len();
-    if 0 < n {
-        if line[n - 1] == b'\r' {
-            return n - 1;
+    // The next word is a bit.
+    pub(crate) fn bit(&mut self) -> Result<bool, Reason> {
+        Ok(self.number(1)? == 1)
+    }
+
+    // The next word is a byte.
+    pub(crate) fn byte(&mut self) -> Result<u8, Reason> {
+        Ok(self.number(u32::from(u8::MAX))? as u8)
+    }
+
+    // The next word is a word of 16 bits.
+    pub(crate) fn word(&mut self) -> Result<u16, Reason> {
+        Ok(self.number(u32::from(u16::MAX))? as u16)
+    }
+
+    // The next word is how often a step is made: once, if there is none.
+    pub(crate) fn times(&mut self, most: u32) -> Result<u32, Reason>
+        requires { 1 ≤ most }
+        ensures { IfOk result (λ n. n ≤ most) }
+    {
+        match self.next() {
+            Some(word) => value::number_in(word, most),
+            None => Ok(1),
         }
     }
-    n
+
+    // The next word is a number.
+    pub(crate) fn number(&mut self, most: u32) -> Result<u32, Reason>
+        ensures { IfOk result (λ n. n ≤ most) }
+    {
+        let word = self.next().ok_or(Reason::NumberMissing)?;
+        value::number_in(word, most)
+    }
+
+    // The next word is a text.
+    pub(crate) fn text(&mut self) -> Result<Text, Reason> {
+        let word = self.next().ok_or(Reason::TextMissing)?;
+        value::text_in(word)
+    }
+
+    // No word follows.
+    pub(crate) fn end(&mut self) -> Result<(), Reason> {
+        match self.next() {
+            Some(_) => Err(Reason::SomethingFollows),
+            None => Ok(()),
+        }
+    }
+}
+
+impl<'a> Iterator for Words<'a> {
+    type Item = &'a [u8];
+
+    fn next(&mut self) -> Option<&'a [u8]> {
+        let mut parts = self.rest?.splitn(2, |b| *b == b' ');
+        let word = parts.next();
+        self.rest = parts.next();
+        word
+    }
 }

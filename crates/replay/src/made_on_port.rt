@@ -1,75 +1,34 @@
-// The calls of the port.
-use crate::stage;
-use crate::stage::Stage;
-use port_state::state::{Made, Port, Stepped};
-use program_saying::part;
-use program_script::name::{OnPort, OnRegister};
-use program_script::value::Text;
+// The calls of the port that answer with a reply.
+use base_side::Stepped;
+use port_state::state::{Made, Port};
+use program_script::order::{OnPort, PortSide};
 
-fn made_of(n: [u32; 5]) -> Made {
-    Made {
-        nv: stage::bit_of(n[0]),
-        qb: stage::bit_of(n[1]),
-        di: stage::bit_of(n[2]),
-        version: stage::byte_of(n[3]),
-        limit: stage::byte_of(n[4]),
-    }
-}
-
-fn begin_answer(port: Port, text: Text) -> Stepped {
-    let bytes = text.bytes;
-    let n = part::within(text.size, &bytes);
-    port_post::begin_answer(port, &bytes[..n])
-}
-
-fn begin_unsolicited(port: Port, text: Text) -> Stepped {
-    let bytes = text.bytes;
-    let n = part::within(text.size, &bytes);
-    port_post::begin_unsolicited(port, &bytes[..n])
-}
-
-fn made(port: Port, name: OnPort, numbers: [u32; 5], text: Text, mem: &mut [u8]) -> Stepped {
-    match name {
-        OnPort::Create => Port::create(made_of(numbers)),
-        OnPort::WriteSa => port_registers::write_sa(port, stage::word_of(numbers[0]), mem),
+pub fn call(port: Port, on: OnPort, mem: &mut [u8]) -> Stepped<Port> {
+    match on {
+        OnPort::Create {
+            nv,
+            qb,
+            di,
+            version,
+            limit,
+        } => Port::create(Made {
+            nv,
+            qb,
+            di,
+            version,
+            limit,
+        }),
+        OnPort::WriteSa(word) => port_registers::write_sa(port, word, mem),
         OnPort::BeginFetch => port_fetch::begin_fetch(port),
-        OnPort::BeginAnswer => begin_answer(port, text),
-        OnPort::BeginUnsolicited => begin_unsolicited(port, text),
+        OnPort::BeginAnswer(text) => port_post::begin_answer(port, text.as_slice()),
+        OnPort::BeginUnsolicited(text) => port_post::begin_unsolicited(port, text.as_slice()),
     }
 }
 
-pub fn call(
-    x: Stage,
-    name: OnPort,
-    numbers: [u32; 5],
-    text: Text,
-    mem: &mut [u8],
-    out: &mut [u8; 65536],
-) -> Stage {
-    let port = x.port;
-    let r = made(port, name, numbers, text, mem);
-    x.port_replied(r, mem, out)
-}
-
-// The port after a call that answers with no reply.
-fn touched(port: Port, name: OnRegister) -> Port {
-    match name {
-        OnRegister::WriteIp => port_registers::write_ip(port),
-        OnRegister::ReadSa => port,
+// Kept: a script's word says which.
+pub fn step(port: Port, side: PortSide, mem: &mut [u8]) -> Stepped<Port> {
+    match side {
+        PortSide::Fetch => port_fetch::step_fetch(port, mem),
+        PortSide::Post => port_post::step_post(port, mem),
     }
-}
-
-// Its answer: `done`, or what SA reads.
-fn told(out: &mut [u8; 65536], at: usize, port: Port, name: OnRegister) -> usize {
-    match name {
-        OnRegister::WriteIp => part::name(out, at, b"done"),
-        OnRegister::ReadSa => part::word(out, at, port_registers::sa(port)),
-    }
-}
-
-pub fn register(x: Stage, name: OnRegister, mem: &[u8], out: &mut [u8; 65536]) -> Stage {
-    let port = x.port;
-    let a = x.starts(out);
-    let b = told(out, a, port, name);
-    x.port_shown(touched(port, name), b, mem, out)
 }

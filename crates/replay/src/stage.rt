@@ -1,227 +1,181 @@
-// The stage: one host, one port, how many bytes are lent, and how far the script and the printed lines have come.
+// The stage: one host and one port over one memory, and what a script does to them.
+use crate::{made_on_host, made_on_port};
+use base_side::Stepped;
 use host_state::state::Host;
 use port_state::state::{Made, Port};
-use program_saying::{answer, of_host, of_port, part, standard, sum};
-use program_script::reason::Reason;
+use program_saying::answer::{Asks, Replied};
+use program_saying::sum::Memory;
+use program_saying::{of_host, of_port};
+use program_script::order;
+use program_script::order::{OnRegister, OnSide, OnStage, Order};
+use std::fmt::Display;
+use std::io;
 use std::io::Write;
 
-// The buffer is written once it is half full: the other half has room for any line.
-const HALF: usize = 32768;
-
-// `line` is the number of the line that is read, `at` where its answer goes in the buffer, `over` whether no more lines are read, and
-// `unwritten` whether that is because the buffer could not be written.
-#[derive(Clone, Copy, Drop)]
-pub struct Stage {
-    pub host: Host,
-    pub port: Port,
-    pub lent: usize,
-    pub line: u32,
-    pub at: usize,
-    pub over: bool,
-    pub unwritten: bool,
+// `lent` is how many bytes of the memory are lent, and `line` the number of the line that is read.
+#[derive(Drop)]
+pub struct Stage<'a, W> {
+    out: W,
+    memory: &'a mut [u8],
+    lent: usize,
+    host: Host,
+    port: Port,
+    line: u32,
 }
 
-// The numbers of an order in the places where they fit.
-pub fn bit_of(n: u32) -> bool {
-    n == 1
-}
-
-pub fn byte_of(n: u32) -> u8 {
-    (n % 256) as u8
-}
-
-pub fn word_of(n: u32) -> u16 {
-    (n % 65536) as u16
-}
-
-// Why a line is no call, as a place in a list.
-fn place_of(reason: Reason) -> usize {
-    match reason {
-        Reason::NoSuchWord => 0,
-        Reason::NumberMissing => 1,
-        Reason::NotANumber => 2,
-        Reason::NumberTooLarge => 3,
-        Reason::TextMissing => 4,
-        Reason::NotAText => 5,
-        Reason::TextTooLong => 6,
-        Reason::SomethingFollows => 7,
-    }
-}
-
-fn because(out: &mut [u8; 65536], at: usize, reason: Reason) -> usize {
-    let k = part::name(out, at, b"not a call: ");
-    part::nth(
-        out,
-        k,
-        b"no such word,a number is missing,not a number,the number is too large,a text is missing,not a text,the text is longer than 64 bytes,something follows",
-        place_of(reason),
-    )
-}
-
-// The end of a call's line: the memory's sum.
-fn closed(out: &mut [u8; 65536], at: usize, mem: &[u8]) -> usize {
-    let a = part::bar(out, at);
-    let b = sum::memory(out, a, mem);
-    part::end(out, b)
-}
-
-impl Stage {
+impl<'a, W: Write> Stage<'a, W> {
     // A host that has not begun, a port with all 0 and limit 1, and no byte lent.
-    pub fn new() -> Stage {
-        let made = Made {
-            nv: false,
-            qb: false,
-            di: false,
-            version: 0,
-            limit: 1,
-        };
-        let host = Host::new();
-        let r = Port::create(made);
-        let port = r.port;
+    pub fn new(out: W, memory: &'a mut [u8]) -> Stage<'a, W> {
         Stage {
-            host,
-            port,
+            out,
+            memory,
             lent: 0,
+            host: Host::new(),
+            port: fresh_port(),
             line: 0,
-            at: 0,
-            over: false,
-            unwritten: false,
         }
     }
 
-    // The same, at this line of the script.
-    pub fn afresh(self) -> Stage {
-        let mut x = Stage::new();
-        x.line = self.line;
-        x.at = self.at;
-        x
+    // One line after the other, to the script's end or the first that is no call.
+    pub fn play(&mut self, script: &[u8]) -> io::Result<()> {
+        for (number, line) in (1u32..).zip(script.split(|byte| *byte == b'\n')) {
+            self.line = number;
+            match order::order_of(line) {
+                Ok(order) => self.obey(order)?,
+                Err(reason) => {
+                    writeln!(self.out, "{}: not a call: {reason}", self.line)?;
+                    break;
+                }
+            }
+        }
+        self.out.flush()
     }
 
-    pub fn next_line(mut self) -> Stage {
-        self.line = std::num::wrapping_add_u32(self.line, 1);
-        self
+    // The bytes lent: a call gets these, and no more.
+    fn lent(&mut self) -> &mut [u8] {
+        let n = self.lent.min(self.memory.len());
+        &mut self.memory[..n]
     }
 
-    pub fn lends(mut self, n: usize) -> Stage {
-        self.lent = n;
-        self
+    // What an order asks.
+    fn obey(&mut self, order: Order) -> io::Result<()> {
+        match order {
+            Order::Blank => Ok(()),
+            Order::Stage(on) => self.set_stage(on),
+            Order::Register(on) => self.register(on),
+            Order::Port(on) => {
+                let r = made_on_port::call(self.port, on, self.lent());
+                self.port_replied(r)
+            }
+            Order::Handshake(on) => {
+                let r = made_on_host::handshake(self.host, on);
+                self.host = r.host;
+                self.show(Asks(&r), of_host::State(&r.host))
+            }
+            Order::Host(on) => {
+                let r = made_on_host::call(self.host, on, self.lent());
+                self.host_replied(r)
+            }
+            Order::Repeated(side, times) => {
+                for _ in 0..times {
+                    self.step(side)?;
+                }
+                Ok(())
+            }
+        }
     }
 
-    pub fn printed(mut self, at: usize) -> Stage {
-        self.at = at;
-        self
+    // Somebody else's hand on the memory, and a look at it.
+    fn set_stage(&mut self, on: OnStage) -> io::Result<()> {
+        match on {
+            OnStage::Afresh => {
+                self.memory.fill(0);
+                self.lent = 0;
+                self.host = Host::new();
+                self.port = fresh_port();
+            }
+            OnStage::Memory { lent } => self.lent = lent as usize,
+            OnStage::Fill { byte } => self.lent().fill(byte),
+            OnStage::Poke { address, word } => poke(self.lent(), address, word),
+            OnStage::Peek { address, count } => self.peek(address, count)?,
+        }
+        Ok(())
     }
 
-    fn with_host(self, host: Host, at: usize) -> Stage {
+    // Some bytes, those that are not lent as `..`.
+    fn peek(&mut self, address: u32, count: u32) -> io::Result<()> {
+        write!(self.out, "{}: ", self.line)?;
+        for i in 0..count {
+            let at = address as usize + i as usize;
+            match self.lent().get(at).copied() {
+                Some(byte) => write!(self.out, "{byte:02x}")?,
+                None => write!(self.out, "..")?,
+            }
+        }
+        writeln!(self.out)
+    }
+
+    // The calls of the port that answer with no reply: with `done`, or with what SA reads.
+    fn register(&mut self, on: OnRegister) -> io::Result<()> {
         let port = self.port;
-        Stage {
-            host,
-            port,
-            lent: self.lent,
-            line: self.line,
-            at,
-            over: self.over,
-            unwritten: self.unwritten,
+        match on {
+            OnRegister::WriteIp => {
+                self.port = port_registers::write_ip(port);
+                let port = self.port;
+                self.show("done", of_port::State(&port))
+            }
+            OnRegister::ReadSa => {
+                let word = port_registers::sa(port);
+                self.show(format_args!("{word:04x}"), of_port::State(&port))
+            }
         }
     }
 
-    fn with_port(self, port: Port, at: usize) -> Stage {
-        let host = self.host;
-        Stage {
-            host,
-            port,
-            lent: self.lent,
-            line: self.line,
-            at,
-            over: self.over,
-            unwritten: self.unwritten,
+    // Kept: a script's word says which.
+    fn step(&mut self, side: OnSide) -> io::Result<()> {
+        match side {
+            OnSide::Port(side) => {
+                let r = made_on_port::step(self.port, side, self.lent());
+                self.port_replied(r)
+            }
+            OnSide::Host(side) => {
+                let r = made_on_host::step(self.host, side, self.lent());
+                self.host_replied(r)
+            }
         }
     }
 
-    // Makes room for a line.
-    pub fn roomy<W: Write>(mut self, output: &mut W, out: &[u8; 65536]) -> Stage {
-        if self.at < HALF {
-            return self;
-        }
-        let written = standard::write(output, out, self.at);
-        self.at = 0;
-        if !written {
-            self.over = true;
-            self.unwritten = true;
-        }
-        self
+    // Kept: this and the next set a field of their own and print by a type of their own; one for both would need a trait for that.
+    fn port_replied(&mut self, r: Stepped<Port>) -> io::Result<()> {
+        self.port = r.half;
+        self.show(Replied(&r.reply), of_port::State(&r.half))
     }
 
-    // The start of this line's answer.
-    pub fn starts(self, out: &mut [u8; 65536]) -> usize {
-        part::start(out, self.at, self.line)
+    fn host_replied(&mut self, r: Stepped<Host>) -> io::Result<()> {
+        self.host = r.half;
+        self.show(Replied(&r.reply), of_host::State(&r.half))
     }
 
-    // The line is no call.
-    pub fn stops(mut self, reason: Reason, out: &mut [u8; 65536]) -> Stage {
-        let a = self.starts(out);
-        let b = because(out, a, reason);
-        self.at = part::end(out, b);
-        self.over = true;
-        self
+    // The line of a call: what it answered, the state of the half that it was made on, and the bytes lent.
+    fn show(&mut self, answer: impl Display + Drop, state: impl Display + Drop) -> io::Result<()> {
+        let line = self.line;
+        let lent = Memory::of(self.lent());
+        writeln!(self.out, "{line}: {answer} | {state} | {lent}")
     }
+}
 
-    // The port after a call whose answer is put: the rest of the line.
-    pub fn port_shown(self, port: Port, at: usize, mem: &[u8], out: &mut [u8; 65536]) -> Stage {
-        let a = part::bar(out, at);
-        let b = of_port::state(out, a, port);
-        let c = closed(out, b, mem);
-        self.with_port(port, c)
-    }
+fn fresh_port() -> Port {
+    let made = Made {
+        limit: 1,
+        ..Made::default()
+    };
+    Port::create(made).half
+}
 
-    // The host after a call whose answer is put: the rest of the line.
-    fn host_shown(self, host: Host, at: usize, mem: &[u8], out: &mut [u8; 65536]) -> Stage {
-        let a = part::bar(out, at);
-        let b = of_host::state(out, a, host);
-        let c = closed(out, b, mem);
-        self.with_host(host, c)
-    }
-
-    // The whole line of a call that the port replied to.
-    pub fn port_replied(
-        self,
-        r: port_state::state::Stepped,
-        mem: &[u8],
-        out: &mut [u8; 65536],
-    ) -> Stage {
-        let port = r.port;
-        let reply = r.reply;
-        let a = self.starts(out);
-        let b = answer::reply(out, a, reply);
-        self.port_shown(port, b, mem, out)
-    }
-
-    // The whole line of a call that the host replied to.
-    pub fn host_replied(
-        self,
-        r: host_state::state::Stepped,
-        mem: &[u8],
-        out: &mut [u8; 65536],
-    ) -> Stage {
-        let host = r.host;
-        let reply = r.reply;
-        let a = self.starts(out);
-        let b = answer::reply(out, a, reply);
-        self.host_shown(host, b, mem, out)
-    }
-
-    // The whole line of a handshake call of the host.
-    pub fn host_asked(
-        self,
-        r: host_state::state::Shaken,
-        mem: &[u8],
-        out: &mut [u8; 65536],
-    ) -> Stage {
-        let host = r.host;
-        let act = r.act;
-        let bytes = r.bytes;
-        let a = self.starts(out);
-        let b = answer::asked(out, a, act, r.size, &bytes);
-        self.host_shown(host, b, mem, out)
+// Stores a word, low byte first, as far as its bytes are lent.
+fn poke(lent: &mut [u8], address: u32, word: u16) {
+    let bytes = word.to_le_bytes();
+    for (place, byte) in lent.iter_mut().skip(address as usize).zip(bytes) {
+        *place = byte;
     }
 }

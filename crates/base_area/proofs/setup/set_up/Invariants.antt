@@ -1,12 +1,7 @@
-use Prim.Native.Nat.{◌≤◌, ◌-◌}
 use mathlib.Core.Path.{◌≡◌}
-use lib.ListN.{length}
 use Rattle.base_words.specs.Words.{address_bits}
 use Rattle.base_area.specs.Setup.{slots_set}
 use Rattle.base_area.proofs.setup.set_up.Given as goal
 
 abbrev pub invariant-loop-j : goal.invariant-loop-j
-invariant-loop-j l = (l.j ≤ l.count) × ((length l.mem ≡ length l.initial.mem) × (l.mem ≡ slots_set address_bits l.area l.pool l.j l.initial.mem))
-
-abbrev pub decreases-loop-j : goal.decreases-loop-j
-decreases-loop-j l = l.count - l.j
+invariant-loop-j l = l.mem ≡ slots_set address_bits l.area l.pool l.j l.initial.mem

@@ -1,0 +1,2 @@
+-- The sum of some bytes.
+pub mod Sum
