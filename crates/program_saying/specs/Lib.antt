@@ -1,2 +1,3 @@
--- The sum of some bytes.
+-- The sum of some bytes; a byte in hexadecimal.
 pub mod Sum
+pub mod Hexadecimal

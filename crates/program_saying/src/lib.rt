@@ -7,4 +7,4 @@ mod item;
 pub mod of_host;
 pub mod of_port;
 pub mod sum;
-mod text;
+pub mod text;

@@ -1,5 +1,23 @@
 // Bytes, in hexadecimal.
+ghost use Rattle.std.specs.Prelude.{◌≡◌, ◌<◌};
+ghost use Rattle.program_saying.specs.Hexadecimal.{glyph, two_digits};
+
 use std::fmt;
+
+// A hexadecimal digit, in lower case.
+fn glyph(n: u8) -> u8
+    requires { n < 16 }
+    ensures { result ≡ glyph n }
+{
+    if n < 10 { b'0' + n } else { b'a' + (n - 10) }
+}
+
+// A byte as two digits.
+pub fn digits_of(byte: u8) -> [u8; 2]
+    ensures { result ≡ two_digits byte }
+{
+    [glyph(byte / 16), glyph(byte % 16)]
+}
 
 // Some bytes, as two digits each.
 #[derive(Clone, Copy)]

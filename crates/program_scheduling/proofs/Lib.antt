@@ -1,1 +1,2 @@
 pub mod DriveLaws
+pub mod PrintLaws

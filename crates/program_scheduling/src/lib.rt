@@ -28,6 +28,11 @@ pub struct Line {
 
 // The line, as it is printed.
 impl fmt::Display for Line {
+    ghost use Rattle.std.specs.Prelude.{Some};
+    ghost use Rattle.program_scheduling.specs.Printed.{line_text};
+
+    ghost output = { λ line. Some (line_text line) };
+
     fn fmt<W: fmt::Write>(&self, f: &mut fmt::Formatter<W>) -> fmt::Result {
         let line = *self;
         write!(f, "sent {} fetched {}", line.sent, line.fetched)?;

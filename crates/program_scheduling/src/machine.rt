@@ -61,23 +61,26 @@ fn text_in(reply: Reply) -> u16
 }
 
 impl Machine {
-    // The text of the oldest open command.
+    // The text of the oldest open command. Here and in `keeps` an element of the texts alone is looked at: one of `self.texts` would
+    // have the compiler copy all of the machine first.
     #[tactic(auto, unfolding(crate::specs::Machine::oldest))]
     pub fn oldest_text(self) -> u16
         ensures { result ≡ oldest self }
     {
-        self.texts[self.tally.answered as usize % 64]
+        let texts = self.texts;
+        texts[self.tally.answered as usize % 64]
     }
 
     // The texts with that of the command just fetched.
     #[tactic(auto, unfolding(crate::specs::Machine::kept))]
-    fn keeps(mut self, b: bool, text: u16) -> [u16; 64]
+    fn keeps(self, b: bool, text: u16) -> [u16; 64]
         ensures { result ≡ kept self b text }
     {
+        let mut texts = self.texts;
         if b {
-            self.texts[self.tally.fetched as usize % 64] = text;
+            texts[self.tally.fetched as usize % 64] = text;
         }
-        self.texts
+        texts
     }
 
     // After a step of the send side.

@@ -5,17 +5,23 @@ use host_state::state::Host;
 use port_state::state::{Made, Port};
 use program_saying::answer::{Asks, Replied};
 use program_saying::sum::Memory;
-use program_saying::{of_host, of_port};
+use program_saying::{of_host, of_port, text};
 use program_script::order;
 use program_script::order::{OnRegister, OnSide, OnStage, Order};
 use std::fmt::Display;
 use std::io;
-use std::io::Write;
+use std::io::{BufWriter, Write};
+
+// What waits is written, whole lines, once there are so many bytes.
+pub const WRITTEN: usize = 32768;
+
+// The most bytes that a peek prints.
+const PEEKED: usize = 64;
 
 // `lent` is how many bytes of the memory are lent, and `line` the number of the line that is read.
 #[derive(Drop)]
-pub struct Stage<'a, W> {
-    out: W,
+pub struct Stage<'a, W: Write + Drop> {
+    out: &'a mut BufWriter<W>,
     memory: &'a mut [u8],
     lent: usize,
     host: Host,
@@ -23,9 +29,9 @@ pub struct Stage<'a, W> {
     line: u32,
 }
 
-impl<'a, W: Write> Stage<'a, W> {
+impl<'a, W: Write + Drop> Stage<'a, W> {
     // A host that has not begun, a port with all 0 and limit 1, and no byte lent.
-    pub fn new(out: W, memory: &'a mut [u8]) -> Stage<'a, W> {
+    pub fn new(out: &'a mut BufWriter<W>, memory: &'a mut [u8]) -> Stage<'a, W> {
         Stage {
             out,
             memory,
@@ -104,15 +110,25 @@ impl<'a, W: Write> Stage<'a, W> {
 
     // Some bytes, those that are not lent as `..`.
     fn peek(&mut self, address: u32, count: u32) -> io::Result<()> {
-        write!(self.out, "{}: ", self.line)?;
-        for i in 0..count {
-            let at = address as usize + i as usize;
-            match self.lent().get(at).copied() {
-                Some(byte) => write!(self.out, "{byte:02x}")?,
-                None => write!(self.out, "..")?,
-            }
+        let lent = self.lent();
+        let start = lent.len().min(address as usize);
+        let mut pairs = [*b".."; PEEKED];
+        let pairs = &mut pairs[..PEEKED.min(count as usize)];
+        for (pair, byte) in pairs.iter_mut().zip(&lent[start..]) {
+            *pair = text::digits_of(*byte);
         }
-        writeln!(self.out)
+        write!(self.out, "{}: ", self.line)?;
+        self.out.write_all(pairs.as_flattened())?;
+        self.ends()
+    }
+
+    // The end of a line.
+    fn ends(&mut self) -> io::Result<()> {
+        writeln!(self.out)?;
+        if WRITTEN <= self.out.buffer().len() {
+            self.out.flush()?;
+        }
+        Ok(())
     }
 
     // The calls of the port that answer with no reply: with `done`, or with what SA reads.
@@ -160,7 +176,8 @@ impl<'a, W: Write> Stage<'a, W> {
     fn show(&mut self, answer: impl Display + Drop, state: impl Display + Drop) -> io::Result<()> {
         let line = self.line;
         let lent = Memory::of(self.lent());
-        writeln!(self.out, "{line}: {answer} | {state} | {lent}")
+        write!(self.out, "{line}: {answer} | {state} | {lent}")?;
+        self.ends()
     }
 }
 
@@ -174,8 +191,8 @@ fn fresh_port() -> Port {
 
 // Stores a word, low byte first, as far as its bytes are lent.
 fn poke(lent: &mut [u8], address: u32, word: u16) {
-    let bytes = word.to_le_bytes();
-    for (place, byte) in lent.iter_mut().skip(address as usize).zip(bytes) {
+    let start = lent.len().min(address as usize);
+    for (place, byte) in lent[start..].iter_mut().zip(word.to_le_bytes()) {
         *place = byte;
     }
 }
