@@ -36,25 +36,36 @@ impl Text {
     }
 }
 
-// A number of at least one digit: decimal, or hexadecimal after 0x. Beyond the largest that it may be it is too large, however many
-// digits it has.
-pub fn number_in(word: &[u8], most: u32) -> Result<u32, Reason>
-    ensures { IfOk result (λ n. n ≤ most) }
+// Two more than any place takes: once a number is so large its other digits are read, and not counted.
+const BEYOND: u64 = (1 << 32) + 1;
+
+// The number that digits spell, at least one. Their radix is no argument, so that the compiler makes a loop for each.
+fn spelled<const RADIX: u32>(digits: &[u8]) -> Result<u64, Reason>
+    requires { (2 ≤ RADIX) × (RADIX ≤ 36) }
 {
-    let (digits, radix) = match word.strip_prefix(b"0x") {
-        Some(digits) => (digits, 16),
-        None => (word, 10),
-    };
     if digits.is_empty() {
         return Err(Reason::NotANumber);
     }
     let mut number = 0u64;
     for b in digits {
-        let digit = char::from(*b).to_digit(radix).ok_or(Reason::NotANumber)?;
+        let digit = char::from(*b).to_digit(RADIX).ok_or(Reason::NotANumber)?;
         number = number
-            .saturating_mul(u64::from(radix))
-            .saturating_add(u64::from(digit));
+            .saturating_mul(u64::from(RADIX))
+            .saturating_add(u64::from(digit))
+            .min(BEYOND);
     }
+    Ok(number)
+}
+
+// A number of at least one digit: decimal, or hexadecimal after 0x. Beyond the largest that it may be it is too large, however many
+// digits it has.
+pub fn number_in(word: &[u8], most: u32) -> Result<u32, Reason>
+    ensures { IfOk result (λ n. n ≤ most) }
+{
+    let number = match word.strip_prefix(b"0x") {
+        Some(digits) => spelled::<16>(digits)?,
+        None => spelled::<10>(word)?,
+    };
     if u64::from(most) < number {
         return Err(Reason::NumberTooLarge);
     }

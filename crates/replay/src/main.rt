@@ -28,31 +28,41 @@ fn read<R: Read + Drop>(alloc: Global, input: R) -> io::Result<Vec<u8>> {
 }
 
 // All that a script prints.
-fn play<W: Write + Drop>(out: &mut BufWriter<W>, script: &[u8]) -> io::Result<()> {
+fn play<W: Write + Drop>(
+    out: &mut BufWriter<W>,
+    script: &[u8],
+    memory: &mut [u8],
+) -> io::Result<()> {
     if LONGEST < script.len() {
         writeln!(out, "script too long")?;
         return out.flush();
     }
-    let mut memory = [0u8; MEMORY];
-    Stage::new(out, &mut memory).play(script)
+    Stage::new(out, memory).play(script)
 }
 
 // .. written. After a write that failed nothing more is: the writer would try once more as it is dropped.
-fn print<W: Write + Drop>(alloc: Global, output: W, script: &[u8]) -> io::Result<()> {
+fn print<W: Write + Drop>(
+    alloc: Global,
+    output: W,
+    script: &[u8],
+    memory: &mut [u8],
+) -> io::Result<()> {
     let mut out = BufWriter::with_capacity(alloc, BUFFER, output)?;
-    let printed = play(&mut out, script);
+    let printed = play(&mut out, script, memory);
     if printed.is_err() {
         let _ = out.into_parts();
     }
     printed
 }
 
+// The memory is had first: a script can do with less room, and that can't.
 fn main(rt: HostRuntime) {
+    let mut memory = [0u8; MEMORY];
     let Ok(script) = read(rt.alloc(), rt.stdin()) else {
         let _ = eprintln!(rt; "replay: can't read");
         return;
     };
-    if print(rt.alloc(), rt.stdout(), &script).is_err() {
+    if print(rt.alloc(), rt.stdout(), &script, &mut memory).is_err() {
         let _ = eprintln!(rt; "replay: can't write");
     }
 }
