@@ -19,5 +19,3 @@ carried_bounds g = omega arith
 pub nothing_lost : (g : ℕ) → carried_of g + left_of g ≡ g + 1
 unfolding left_of carried_of
 nothing_lost g = omega arith
-
--- What is wrong with an envelope, from the parts that a caller reads off its header.

@@ -7,10 +7,10 @@ use crate::reason::Reason;
 use crate::value::Text;
 
 // The most bytes that can be lent.
-const LENT: u32 = 262400;
+pub const LENT: u32 = 262400;
 
 // The most bytes that a peek prints.
-const PEEKED: u32 = 64;
+pub const PEEKED: u32 = 64;
 
 // The most often that one line makes a step.
 const TIMES: u32 = 100000;

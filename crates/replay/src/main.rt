@@ -5,64 +5,52 @@ mod made_on_host;
 mod made_on_port;
 mod stage;
 
+use program_script::order;
 use stage::Stage;
-use std::alloc::Global;
 use std::io;
-use std::io::{BufWriter, Read, Write};
+use std::io::{Read, Write};
 
 // The longest script.
 const LONGEST: usize = 1048576;
 
-// What is printed waits in so many bytes, and is written once they are half full: the other half has room for any line.
-const BUFFER: usize = 2 * stage::WRITTEN;
+// Room for a script and a byte more, to see that it is longer.
+const ROOM: usize = LONGEST + 1;
+
+// What is printed waits in so many bytes: beside what is written at once they have room for any line.
+const WAITING: usize = stage::WRITTEN + 16384;
 
 // The bytes that a script can lend.
-const MEMORY: usize = 262400;
+const MEMORY: usize = order::LENT as usize;
 
-// A script, or a byte more than the longest, to see that it is longer. There is room from the start for that and one byte besides, where
-// it can be had: a full vector would grow.
-fn read<R: Read + Drop>(alloc: Global, input: R) -> io::Result<Vec<u8>> {
-    let mut script = Vec::with_capacity(alloc, LONGEST + 2).unwrap_or(Vec::new(alloc));
-    input.take(LONGEST as u64 + 1).read_to_end(&mut script)?;
-    Ok(script)
+// A script, or more than the longest. The room is handed on whole: the check knows the length of so large an array from its type, and
+// where it sees the array made it counts.
+fn read<R: Read + Drop>(input: R, room: &mut [u8; ROOM]) -> io::Result<&[u8]> {
+    program_reading::read(input, room)
 }
 
 // All that a script prints.
 fn play<W: Write + Drop>(
-    out: &mut BufWriter<W>,
+    mut output: W,
     script: &[u8],
+    waiting: &mut [u8],
     memory: &mut [u8],
 ) -> io::Result<()> {
     if LONGEST < script.len() {
-        writeln!(out, "script too long")?;
-        return out.flush();
+        return output.write_all(b"script too long\n");
     }
-    Stage::new(out, memory).play(script)
+    Stage::new(output, waiting, memory).play(script)
 }
 
-// .. written. After a write that failed nothing more is: the writer would try once more as it is dropped.
-fn print<W: Write + Drop>(
-    alloc: Global,
-    output: W,
-    script: &[u8],
-    memory: &mut [u8],
-) -> io::Result<()> {
-    let mut out = BufWriter::with_capacity(alloc, BUFFER, output)?;
-    let printed = play(&mut out, script, memory);
-    if printed.is_err() {
-        let _ = out.into_parts();
-    }
-    printed
-}
-
-// The memory is had first: a script can do with less room, and that can't.
+// All that is kept lies on the stack: for its first byte the C library's heap takes 132 KiB.
 fn main(rt: HostRuntime) {
+    let mut room = [0u8; ROOM];
+    let mut waiting = [0u8; WAITING];
     let mut memory = [0u8; MEMORY];
-    let Ok(script) = read(rt.alloc(), rt.stdin()) else {
+    let Ok(script) = read(rt.stdin(), &mut room) else {
         let _ = eprintln!(rt; "replay: can't read");
         return;
     };
-    if print(rt.alloc(), rt.stdout(), &script, &mut memory).is_err() {
+    if play(rt.stdout(), script, &mut waiting, &mut memory).is_err() {
         let _ = eprintln!(rt; "replay: can't write");
     }
 }

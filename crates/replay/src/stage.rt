@@ -10,18 +10,20 @@ use program_script::order;
 use program_script::order::{OnRegister, OnSide, OnStage, Order};
 use std::fmt::Display;
 use std::io;
-use std::io::{BufWriter, Write};
+use std::io::{Cursor, Write};
 
 // What waits is written, whole lines, once there are so many bytes.
 pub const WRITTEN: usize = 32768;
 
 // The most bytes that a peek prints.
-const PEEKED: usize = 64;
+const PEEKED: usize = order::PEEKED as usize;
 
-// `lent` is how many bytes of the memory are lent, and `line` the number of the line that is read.
+// What is printed waits in `out`, and is written to `output`. `lent` is how many bytes of the memory are lent, and `line` the number of
+// the line that is read.
 #[derive(Drop)]
 pub struct Stage<'a, W: Write + Drop> {
-    out: &'a mut BufWriter<W>,
+    output: W,
+    out: Cursor<&'a mut [u8]>,
     memory: &'a mut [u8],
     lent: usize,
     host: Host,
@@ -31,9 +33,10 @@ pub struct Stage<'a, W: Write + Drop> {
 
 impl<'a, W: Write + Drop> Stage<'a, W> {
     // A host that has not begun, a port with all 0 and limit 1, and no byte lent.
-    pub fn new(out: &'a mut BufWriter<W>, memory: &'a mut [u8]) -> Stage<'a, W> {
+    pub fn new(output: W, waiting: &'a mut [u8], memory: &'a mut [u8]) -> Stage<'a, W> {
         Stage {
-            out,
+            output,
+            out: Cursor::new(waiting),
             memory,
             lent: 0,
             host: Host::new(),
@@ -54,7 +57,7 @@ impl<'a, W: Write + Drop> Stage<'a, W> {
                 }
             }
         }
-        self.out.flush()
+        self.write()
     }
 
     // The bytes lent: a call gets these, and no more.
@@ -125,9 +128,18 @@ impl<'a, W: Write + Drop> Stage<'a, W> {
     // The end of a line.
     fn ends(&mut self) -> io::Result<()> {
         writeln!(self.out)?;
-        if WRITTEN <= self.out.buffer().len() {
-            self.out.flush()?;
+        if WRITTEN as u64 <= self.out.position() {
+            self.write()?;
         }
+        Ok(())
+    }
+
+    // What waits is written.
+    fn write(&mut self) -> io::Result<()> {
+        let waiting = &self.out.get_ref()[..];
+        let n = waiting.len().min(self.out.position() as usize);
+        self.output.write_all(&waiting[..n])?;
+        self.out.set_position(0);
         Ok(())
     }
 

@@ -13,10 +13,9 @@ use program_saying::sum;
 use program_scheduling::opening;
 use program_script::order;
 use program_script::reason::Reason;
-use std::io::Read;
 
 // The input is read until it ends or so many bytes have come.
-const MOST: u64 = 128;
+const MOST: usize = 128;
 
 // How the program is used.
 const USAGE: &str = "usage: rounds reads a line COMMAND RESPONSE SIZE COUNT, in decimal:
@@ -113,11 +112,11 @@ fn wanted_in(line: &[u8]) -> Result<Wanted, Reason> {
 }
 
 fn main(rt: HostRuntime) {
-    let mut input = Vec::new(rt.alloc());
-    if rt.stdin().take(MOST).read_to_end(&mut input).is_err() {
+    let mut room = [0u8; MOST];
+    let Ok(input) = program_reading::read(rt.stdin(), &mut room) else {
         let _ = eprintln!(rt; "rounds: can't read");
         return;
-    }
+    };
     let line = input.split(|b| *b == b'\n').next().unwrap_or(&[]);
     let Ok(wanted) = wanted_in(line) else {
         let _ = eprintln!(rt; "{USAGE}");

@@ -1,19 +1,17 @@
 // Document 01, "The schedule program": reads a schedule on standard input and prints one line.
 #![tactic(auto)]
 
-use std::io::Read;
-
 // The input is read until it ends or so many bytes have come: one more than a schedule has.
-const MOST: u64 = 4097;
+const MOST: usize = 4097;
 
 fn main(rt: HostRuntime) {
-    let mut input = Vec::new(rt.alloc());
-    if rt.stdin().take(MOST).read_to_end(&mut input).is_err() {
+    let mut room = [0u8; MOST];
+    let Ok(input) = program_reading::read(rt.stdin(), &mut room) else {
         let _ = eprintln!(rt; "schedule: can't read");
         return;
-    }
+    };
     let mut mem = [0u8; 32768];
-    let printed = match program_scheduling::run(&input, &mut mem) {
+    let printed = match program_scheduling::run(input, &mut mem) {
         Some(line) => println!(rt; "{line}"),
         None => println!(rt; "refused"),
     };
