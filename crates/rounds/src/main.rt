@@ -17,9 +17,11 @@ use program_script::reason::Reason;
 // The input is read until it ends or so many bytes have come.
 const MOST: usize = 128;
 
-// How the program is used.
-const USAGE: &str = "usage: rounds reads a line COMMAND RESPONSE SIZE COUNT, in decimal:
-ring exponents 0 to 7, bytes of a text 0 to 60, rounds 0 to 1000000";
+// How the program is used, line by line.
+const USAGE: [&str; 2] = [
+    "usage: rounds reads a line COMMAND RESPONSE SIZE COUNT, in decimal:",
+    "ring exponents 0 to 7, bytes of a text 0 to 60, rounds 0 to 1000000",
+];
 
 // Both halves, the step calls made, and the sum of the texts taken.
 #[derive(Clone, Copy)]
@@ -119,7 +121,9 @@ fn main(rt: HostRuntime) {
     };
     let line = input.split(|b| *b == b'\n').next().unwrap_or(&[]);
     let Ok(wanted) = wanted_in(line) else {
-        let _ = eprintln!(rt; "{USAGE}");
+        for line in USAGE {
+            let _ = eprintln!(rt; "{line}");
+        }
         return;
     };
     let Run { steps, sum, .. } = rounds(wanted);
