@@ -36,12 +36,12 @@ impl Text {
     }
 }
 
-// Once a number is so large its other digits are read, and not counted. It is two more than any place takes, so that it is too large for
-// a place that takes one more, too.
+// Once a number is so large its other digits are read, and not counted. Two more than any place takes: too large even for a place that
+// took one more.
 const BEYOND: u64 = (1 << 32) + 1;
 
-// The number that one digit or more spell, or BEYOND where it is more. Their radix is no argument, so that the compiler makes a loop for
-// each.
+// The number that digits spell, at least one, or BEYOND where that is less. Their radix is no argument, so that the compiler makes a loop
+// for each.
 fn spelled<const RADIX: u32>(digits: &[u8]) -> Result<u64, Reason>
     requires { (2 ≤ RADIX) × (RADIX ≤ 36) }
 {

@@ -121,8 +121,8 @@ fn main(rt: HostRuntime) {
     };
     let line = input.split(|b| *b == b'\n').next().unwrap_or(&[]);
     let Ok(wanted) = wanted_in(line) else {
-        for line in USAGE {
-            let _ = eprintln!(rt; "{line}");
+        for usage in USAGE {
+            let _ = eprintln!(rt; "{usage}");
         }
         return;
     };
