@@ -6,7 +6,6 @@ use borrow.Rule.Slice.PartMut.{put_mid, post_of}
 use lib.Seq.{take-add, take-append-le}
 use Rattle.program_reading.proofs.read.Goals as goal
 
--- The front with what comes next, put into the middle.
 take_split : (a b : ℕ) (old new : List ℕ) → a ≤ b → take a new ≡ take a old → take a old ++ slice_range new a b ≡ take b new
 take_split a b old new h front =
     let same : a + (b - a) ≡ b = omega arith in
@@ -18,12 +17,12 @@ slice_range-put_mid a k n xs ys within fits =
     let after = post_of a k xs in
     ap (take ((a + n) - a)) (drop_at (take a xs) (ys ++ after) a (length-take-le a xs within)) ∙ ap (λ m. take m (ys ++ after)) same ∙ take-append-le n ys after fits
 
+-- What stood at the front, and then n of what was put behind it.
+front_grows : (a k n : ℕ) (xs ys : List ℕ) → a ≤ length xs → n ≤ length ys → take a xs ++ take n ys ≡ take (a + n) (put_mid a k xs ys)
+front_grows a k n xs ys within fits =
+    ap (λ l. take a xs ++ l) (sym (slice_range-put_mid a k n xs ys within fits))
+    ∙ take_split a (a + n) xs (put_mid a k xs ys) (omega arith) (take-put_mid_below _ _ _ _ _ (le_refl _) within)
+
 pub loop-n-preserved : goal.loop-n-preserved
 loop-n-preserved g c =
-    let from = c.loop-n.n in
-    let more = c.in_ok-more.more in
-    let room = length c.loop-n.room - from in
-    let within = c.loop-n.invariant.1 in
-    let part = slice_range-put_mid from room more c.loop-n.room c.read.new.buf within c.in_ok-more.ensures.bound.0 in
-    let joined = take_split from (from + more) c.loop-n.room (put_mid from room c.loop-n.room c.read.new.buf) (omega arith) (take-put_mid_below _ _ _ _ _ (le_refl _) within) in
-    (search rules, search rules, subst (Consumes _ _) (ap (λ l. take from c.loop-n.room ++ l) (sym part) ∙ joined) (Consumes-trans _ _ _ _ _ c.loop-n.invariant.2 c.in_ok-more.ensures.bytes.0))
+    (search rules, search rules, subst (Consumes _ _) (front_grows _ _ _ _ _ c.loop-n.invariant.1 c.in_ok-more.ensures.bound.0) (Consumes-trans _ _ _ _ _ c.loop-n.invariant.2 c.in_ok-more.ensures.bytes.0))
